@@ -14,8 +14,8 @@ use Rattle.race_model.proofs.Ranks.RankOrder.{at_rank_position}
 use Rattle.race_model.proofs.Ranks.PositionTotals.{at_rank_under}
 use Rattle.certificate.proofs.RecordBytes.{share-of_record}
 use Rattle.bearoff_c.specs.declared.distributions.Distribution.{Distribution}
-use Rattle.bearoff_c.specs.declared.long_numbers.Long.{Long}
-use Rattle.bearoff_c.specs.declared.long_numbers.RoundedLong.{RoundedLong}
+use Rattle.bearoff_c.specs.declared.numbers.Long.{Long}
+use Rattle.bearoff_c.specs.declared.numbers.RoundedLong.{RoundedLong}
 use Rattle.bearoff_c.specs.Longs.{long_number_of}
 use Rattle.bearoff_c.specs.Told.{SaysMean, SaysEpc, SaysShares}
 

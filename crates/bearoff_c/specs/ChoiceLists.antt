@@ -1,5 +1,5 @@
 -- Every result of a roll with what it costs by a book, as C has them.
-use Rattle.std.specs.Prelude.{◌≡◌, ℕ, List, length, map, All}
+use Rattle.std.specs.Prelude.{◌≡◌, ◌⊎◌, ℕ, ◌≤◌, List, length, map, All, take, drop}
 use Rattle.race_model.specs.Positions.{Board}
 use Rattle.race_model.specs.Dice.{Throw}
 use Rattle.race_model.specs.Fractions.{IsFraction}
@@ -29,3 +29,14 @@ pub record IsChoiceCount (b : Book) (x : Board) (v : Throw) (n : ℕ) : Type 0 w
   pub found : List Board
   pub listed : IsMoveListIn b x v found
   pub count_is : n ≡ length found
+
+-- by its status a list of moves stands in front of a room, whose rest stays; or it has no room, and
+-- only its length is told; else the room is as it was
+pub record TellsMoves (b : Book) (x : Board) (v : Throw) (old new : List Choice) (count : ℕ)
+    (status : ℕ) : Type 0 where
+  pub listed : status ≡ 0 → IsChoiceList b x v (take count new)
+  pub counted : status ≡ 0 → count ≤ length old
+  pub rest : status ≡ 0 → drop count new ≡ drop count old
+  pub told : status ≡ 8 → IsChoiceCount b x v count
+  pub most : (status ≡ 0) ⊎ (status ≡ 8) → count ≤ 127
+  pub left : ¬ (status ≡ 0) → new ≡ old

@@ -1,6 +1,6 @@
 -- Numbers of 192 bits in three words.
 use Rattle.std.specs.Prelude.{ℕ, ◌+◌, ◌*◌, ◌^◌, slice_index}
-use Rattle.bearoff_c.specs.declared.long_numbers.Long.{Long}
+use Rattle.bearoff_c.specs.declared.numbers.Long.{Long}
 
 -- the number whose words these are, the greatest first
 abbrev pub long_number_of : Long → ℕ

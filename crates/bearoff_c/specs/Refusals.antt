@@ -1,5 +1,6 @@
 -- Why a call gives no answer, and the status of that.
-use Rattle.std.specs.Prelude.{ℕ, ◌+◌, ◌==◌, nat_lt, nat_le, ◌&&◌, Bool, true, false, if◌then◌else◌}
+use Rattle.std.specs.Prelude.{◌≡◌, ◌↔◌, ℕ, ◌+◌, ◌==◌, nat_lt, nat_le, ◌&&◌, Bool, true, false}
+use Rattle.std.specs.Prelude.{if◌then◌else◌}
 use Rattle.std.specs.Prelude.{Option, Some, None, Result, Ok, Err}
 use Rattle.race_model.specs.Positions.{Board, checkers, pips}
 use Rattle.race_model.specs.Ranks.{count_to}
@@ -24,6 +25,11 @@ status_of (Some BadText) = 11
 abbrev pub refusal_in : {T : Type 0} → Result T Refusal → Option Refusal
 refusal_in (Ok answer) = None
 refusal_in (Err refusal) = Some refusal
+
+-- a status is that of a refusal, or n exactly where nothing is refused so and P holds
+pub record IsStatusOr (n : ℕ) (P : Type 0) (refusal : Option Refusal) (status : ℕ) : Type 0 where
+  pub last : (status ≡ n) ↔ ((refusal ≡ None) × P)
+  pub others : ¬ (status ≡ n) → status ≡ status_of refusal
 
 -- why a database of this bound, which is open or not, tells no numbers of a position
 abbrev pub position_refusal : Bool → ℕ → Board → Option Refusal

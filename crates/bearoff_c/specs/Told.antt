@@ -1,19 +1,35 @@
--- What the calls tell of a position by a book, as C has it.
+-- What the calls tell by a book, as C has it.
 use Rattle.std.specs.Prelude.{◌≡◌, ℕ, ◌*◌, ◌<◌, ◌≤◌, map, slice_index}
 use Rattle.race_model.specs.Positions.{Board}
+use Rattle.race_model.specs.Dice.{Throw}
+use Rattle.race_model.specs.Plays.{Legal}
+use Rattle.race_model.specs.FirstPlays.{IsFirstPlay}
 use Rattle.race_model.specs.Strategies.{count_over, IsLeastIn}
-use Rattle.race_model.specs.Books.{Book, mean_in, share_in, follow_in, whole_in}
+use Rattle.race_model.specs.Books.{Book, mean_in, share_in, recorded_in, follow_in, whole_in}
+use Rattle.race_model.specs.Losses.{loss_in, IsLossIn}
 use Rattle.race_model.specs.Fractions.{IsFraction, IsThousandths}
-use Rattle.bearoff_c.specs.declared.long_numbers.Long.{Long}
-use Rattle.bearoff_c.specs.declared.long_numbers.RoundedLong.{RoundedLong}
+use Rattle.bearoff_c.specs.declared.numbers.Long.{Long}
+use Rattle.bearoff_c.specs.declared.numbers.RoundedLong.{RoundedLong}
+use Rattle.bearoff_c.specs.declared.numbers.LongFraction.{LongFraction}
 use Rattle.bearoff_c.specs.declared.distributions.Distribution.{Distribution}
-use Rattle.bearoff_c.specs.FileBooks.{rolls_in}
+use Rattle.bearoff_c.specs.declared.distributions.Chance.{Chance}
+use Rattle.bearoff_c.specs.declared.plays.RecordedPlay.{RecordedPlay}
+use Rattle.bearoff_c.specs.FileBooks.{rolls_in, chance_in}
 use Rattle.bearoff_c.specs.Longs.{long_number_of}
+use Rattle.bearoff_c.specs.PlayLists.{moves_in, AreZerosAfter}
 
 -- the mean number of rolls, which is the least over all strategies
 pub record SaysMean (b : Book) (x : Board) (mean : Long) : Type 0 where
   pub least : IsLeastIn (rolls_in b) x (mean_in b x)
   pub recorded : long_number_of mean ≡ mean_in b x
+
+-- that mean, in lowest terms and rounded
+pub record SaysRolls (b : Book) (x : Board) (told : RoundedLong) : Type 0 where
+  pub least : IsLeastIn (rolls_in b) x (mean_in b x)
+  pub mean : IsFraction (mean_in b x) (whole_in b)
+      (long_number_of told.exact.numerator) (long_number_of told.exact.denominator)
+  pub rounded : IsThousandths (long_number_of told.exact.numerator)
+      (long_number_of told.exact.denominator) told.thousandths
 
 -- the effective pip count, 49/6 of that mean
 pub record SaysEpc (b : Book) (x : Board) (told : RoundedLong) : Type 0 where
@@ -30,3 +46,28 @@ pub record SaysShares (b : Book) (x : Board) (spread : Distribution) : Type 0 wh
   pub recorded : (k : ℕ) → k ≤ rolls_in b →
       slice_index (map long_number_of spread.shares) k ≡ share_in b x k
   pub beyond : (k : ℕ) → rolls_in b < k → slice_index (map long_number_of spread.shares) k ≡ 0
+
+-- the chance to be off within so many rolls
+pub record SaysChance (b : Book) (x : Board) (rolls : ℕ) (told : Chance) : Type 0 where
+  pub chance : long_number_of told.numerator ≡ chance_in b x rolls
+  pub rounded : IsThousandths (long_number_of told.numerator) (whole_in b) told.thousandths
+
+-- the first play of a throw from x to y
+pub record SaysPlayTo (x : Board) (v : Throw) (y : Board) (play : RecordedPlay) : Type 0 where
+  pub to : play.to.points ≡ y
+  pub first : IsFirstPlay x v y (moves_in play)
+  pub few : play.count ≤ 4
+  pub zeros : AreZerosAfter play.count play.moves
+
+-- the recorded play, which is legal
+pub record SaysPlay (b : Book) (x : Board) (v : Throw) (play : RecordedPlay) : Type 0 where
+  pub recorded : play.to.points ≡ recorded_in b x v
+  pub legal : Legal x v play.to.points
+  pub first : SaysPlayTo x v play.to.points play
+
+-- what a play from x to y costs, which is its least mean less the least of all
+pub record SaysLoss (b : Book) (x : Board) (v : Throw) (y : Board) (loss : LongFraction) : Type 0
+  where
+    pub recorded : IsFraction (loss_in b x v y) (whole_in b)
+        (long_number_of loss.numerator) (long_number_of loss.denominator)
+    pub lost : IsLossIn (rolls_in b) x v y (loss_in b x v y)

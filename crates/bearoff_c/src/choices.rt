@@ -1,28 +1,23 @@
 //! What a roll is played with by a file of any version, and what plays cost.
-ghost use Rattle.std.specs.Prelude.{◌≡◌, ℕ, ◌<◌, ◌≤◌, ◌⊎◌, ◌↔◌, true, None};
+ghost use Rattle.std.specs.Prelude.{◌≡◌, ℕ, ◌<◌, ◌≤◌, true};
 ghost use Rattle.std.specs.Prelude.{IsSome, IfSome, IfOk, All, length, map, take, drop};
 ghost use Rattle.std.specs.Prelude.{nat_le, if◌then◌else◌};
 ghost use Rattle.race_model.specs.Positions.{Board as Place, pips};
 ghost use Rattle.race_model.specs.Plays.{Legal};
-ghost use Rattle.race_model.specs.FirstPlays.{IsFirstPlay};
-ghost use Rattle.race_model.specs.Fractions.{IsFraction};
-ghost use Rattle.race_model.specs.Books.{recorded_in, whole_in};
-ghost use Rattle.race_model.specs.Losses.{loss_in, IsLossIn};
 ghost use Rattle.legal_plays.specs.Faces.{face, roll_of};
 ghost use Rattle.epc_query.specs.Choices.{result_of};
-ghost use Rattle.bearoff_c.specs.FileBooks.{file_book, book_by, rolls_in};
-ghost use Rattle.bearoff_c.specs.ChoiceLists.{places_of, HasCost, IsChoiceList, IsChoiceCount};
-ghost use Rattle.bearoff_c.specs.Longs.{long_number_of};
-ghost use Rattle.bearoff_c.specs.PlayLists.{moves_in, AreZerosAfter};
-ghost use Rattle.bearoff_c.specs.Refusals.{loss_refusal, play_refusal, refusal_in, status_of};
+ghost use Rattle.bearoff_c.specs.FileBooks.{file_book, book_by};
+ghost use Rattle.bearoff_c.specs.ChoiceLists.{places_of, HasCost, IsChoiceList, IsChoiceCount, TellsMoves};
+ghost use Rattle.bearoff_c.specs.Refusals.{IsStatusOr, loss_refusal, play_refusal, refusal_in, status_of};
+ghost use Rattle.bearoff_c.specs.Told.{SaysPlay, SaysLoss};
 
 use crate::kept::File;
-use crate::long_means::LongMean;
-use crate::long_numbers::LongFraction;
+use crate::numbers::LongFraction;
 use crate::opened::OpenedFile;
 use crate::plays::{RecordedPlay, listed, read_ends, read_roll};
 use crate::positions::Counts;
 use crate::ranks::find_in;
+use crate::rolls::LongMean;
 use crate::statuses::{OK, Refusal, SHORT};
 use epc_query::RankedChoice;
 use home_board::Position;
@@ -68,14 +63,8 @@ pub fn tell_play(
 ) -> u32
     ensures status { result ≡ status_of (play_refusal
         true (book_by opened.now).bound position.now.points one other) }
-    ensures recorded { result ≡ 0 → play.new.to.points ≡ recorded_in
-        (book_by opened.now) position.now.points (roll_of (face one) (face other)) }
-    ensures legal { result ≡ 0 →
-        Legal position.now.points (roll_of (face one) (face other)) play.new.to.points }
-    ensures first { result ≡ 0 → IsFirstPlay position.now.points (roll_of (face one) (face other))
-        play.new.to.points (moves_in play.new) }
-    ensures few { result ≡ 0 → play.new.count ≤ 4 }
-    ensures zeros { result ≡ 0 → AreZerosAfter play.new.count play.new.moves }
+    ensures play { result ≡ 0 → SaysPlay (book_by opened.now)
+        position.now.points (roll_of (face one) (face other)) play.new }
     ensures left { ¬ (result ≡ 0) → play.new ≡ play.old }
 {
     let turn = match find_turn_in(opened, position, one, other) {
@@ -103,19 +92,12 @@ pub fn tell_loss(
     to: &Counts,
     loss: &mut LongFraction,
 ) -> u32
-    ensures not_legal { (result ≡ 6) ↔ ((loss_refusal true (book_by opened.now).bound
-        position.now.points one other to.now.points ≡ None)
-        × (¬ Legal position.now.points (roll_of (face one) (face other)) to.now.points)) }
-    ensures status { ¬ (result ≡ 6) → result ≡ status_of (loss_refusal true
-        (book_by opened.now).bound position.now.points one other to.now.points) }
-    ensures recorded { result ≡ 0 → IsFraction (loss_in (book_by opened.now)
-        position.now.points (roll_of (face one) (face other)) to.now.points)
-        (whole_in (book_by opened.now))
-        (long_number_of loss.new.numerator) (long_number_of loss.new.denominator) }
-    ensures lost { result ≡ 0 → IsLossIn (rolls_in (book_by opened.now))
-        position.now.points (roll_of (face one) (face other)) to.now.points
-        (loss_in (book_by opened.now)
-        position.now.points (roll_of (face one) (face other)) to.now.points) }
+    ensures status { IsStatusOr 6
+        (¬ Legal position.now.points (roll_of (face one) (face other)) to.now.points)
+        (loss_refusal true (book_by opened.now).bound
+        position.now.points one other to.now.points) result }
+    ensures loss { result ≡ 0 → SaysLoss (book_by opened.now)
+        position.now.points (roll_of (face one) (face other)) to.now.points loss.new }
     ensures left { ¬ (result ≡ 0) → loss.new ≡ loss.old }
 {
     let ends = match read_ends(position, one, other, to) {
@@ -147,18 +129,10 @@ pub fn tell_moves(
     room: &mut [Choice],
     count: &mut usize,
 ) -> u32
-    ensures short { (result ≡ 8) ↔ ((play_refusal true (book_by opened.now).bound
-        position.now.points one other ≡ None) × (length room.old < count.new)) }
-    ensures status { ¬ (result ≡ 8) → result ≡ status_of (play_refusal true
-        (book_by opened.now).bound position.now.points one other) }
-    ensures listed { result ≡ 0 → IsChoiceList (book_by opened.now)
-        position.now.points (roll_of (face one) (face other)) (take count.new room.new) }
-    ensures told { result ≡ 8 → IsChoiceCount (book_by opened.now)
-        position.now.points (roll_of (face one) (face other)) count.new }
-    ensures counted { result ≡ 0 → count.new ≤ length room.old }
-    ensures most { (result ≡ 0) ⊎ (result ≡ 8) → count.new ≤ 127 }
-    ensures rest { result ≡ 0 → drop count.new room.new ≡ drop count.new room.old }
-    ensures left { ¬ (result ≡ 0) → room.new ≡ room.old }
+    ensures status { IsStatusOr 8 (length room.old < count.new)
+        (play_refusal true (book_by opened.now).bound position.now.points one other) result }
+    ensures moves { TellsMoves (book_by opened.now)
+        position.now.points (roll_of (face one) (face other)) room.old room.new count.new result }
     ensures untold { ¬ (result ≡ 0) → ¬ (result ≡ 8) → count.new ≡ count.old }
 {
     let turn = match find_turn_in(opened, position, one, other) {
@@ -261,14 +235,8 @@ pub extern "C" fn bearoff_play(
 ) -> u32
     ensures status { result ≡ status_of (play_refusal
         file.now.is_open file.now.bound position.now.points one other) }
-    ensures recorded { result ≡ 0 → play.new.to.points ≡ recorded_in
-        (file_book file.now.bytes.now) position.now.points (roll_of (face one) (face other)) }
-    ensures legal { result ≡ 0 →
-        Legal position.now.points (roll_of (face one) (face other)) play.new.to.points }
-    ensures first { result ≡ 0 → IsFirstPlay position.now.points (roll_of (face one) (face other))
-        play.new.to.points (moves_in play.new) }
-    ensures few { result ≡ 0 → play.new.count ≤ 4 }
-    ensures zeros { result ≡ 0 → AreZerosAfter play.new.count play.new.moves }
+    ensures play { result ≡ 0 → SaysPlay (file_book file.now.bytes.now)
+        position.now.points (roll_of (face one) (face other)) play.new }
     ensures left { ¬ (result ≡ 0) → play.new ≡ play.old }
 {
     match file.opened() {
@@ -290,19 +258,12 @@ pub extern "C" fn bearoff_loss(
     to: &Counts,
     loss: &mut LongFraction,
 ) -> u32
-    ensures not_legal { (result ≡ 6) ↔ ((loss_refusal file.now.is_open file.now.bound
-        position.now.points one other to.now.points ≡ None)
-        × (¬ Legal position.now.points (roll_of (face one) (face other)) to.now.points)) }
-    ensures status { ¬ (result ≡ 6) → result ≡ status_of (loss_refusal file.now.is_open
-        file.now.bound position.now.points one other to.now.points) }
-    ensures recorded { result ≡ 0 → IsFraction (loss_in (file_book file.now.bytes.now)
-        position.now.points (roll_of (face one) (face other)) to.now.points)
-        (whole_in (file_book file.now.bytes.now))
-        (long_number_of loss.new.numerator) (long_number_of loss.new.denominator) }
-    ensures lost { result ≡ 0 → IsLossIn (rolls_in (file_book file.now.bytes.now))
-        position.now.points (roll_of (face one) (face other)) to.now.points
-        (loss_in (file_book file.now.bytes.now)
-        position.now.points (roll_of (face one) (face other)) to.now.points) }
+    ensures status { IsStatusOr 6
+        (¬ Legal position.now.points (roll_of (face one) (face other)) to.now.points)
+        (loss_refusal file.now.is_open file.now.bound
+        position.now.points one other to.now.points) result }
+    ensures loss { result ≡ 0 → SaysLoss (file_book file.now.bytes.now)
+        position.now.points (roll_of (face one) (face other)) to.now.points loss.new }
     ensures left { ¬ (result ≡ 0) → loss.new ≡ loss.old }
 {
     match file.opened() {
@@ -325,18 +286,10 @@ pub extern "C" fn bearoff_moves(
     room: &mut [Choice],
     count: &mut usize,
 ) -> u32
-    ensures short { (result ≡ 8) ↔ ((play_refusal file.now.is_open file.now.bound
-        position.now.points one other ≡ None) × (length room.old < count.new)) }
-    ensures status { ¬ (result ≡ 8) → result ≡ status_of (play_refusal file.now.is_open
-        file.now.bound position.now.points one other) }
-    ensures listed { result ≡ 0 → IsChoiceList (file_book file.now.bytes.now)
-        position.now.points (roll_of (face one) (face other)) (take count.new room.new) }
-    ensures told { result ≡ 8 → IsChoiceCount (file_book file.now.bytes.now)
-        position.now.points (roll_of (face one) (face other)) count.new }
-    ensures counted { result ≡ 0 → count.new ≤ length room.old }
-    ensures most { (result ≡ 0) ⊎ (result ≡ 8) → count.new ≤ 127 }
-    ensures rest { result ≡ 0 → drop count.new room.new ≡ drop count.new room.old }
-    ensures left { ¬ (result ≡ 0) → room.new ≡ room.old }
+    ensures status { IsStatusOr 8 (length room.old < count.new)
+        (play_refusal file.now.is_open file.now.bound position.now.points one other) result }
+    ensures moves { TellsMoves (file_book file.now.bytes.now)
+        position.now.points (roll_of (face one) (face other)) room.old room.new count.new result }
     ensures untold { ¬ (result ≡ 0) → ¬ (result ≡ 8) → count.new ≡ count.old }
 {
     match file.opened() {

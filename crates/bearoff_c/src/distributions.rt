@@ -3,17 +3,15 @@
 ghost use Rattle.std.specs.Prelude.{◌≡◌, ℕ, ◌+◌, ◌-◌, ◌*◌, ◌^◌, ◌<◌, ◌≤◌, sum_by, map, slice_index};
 ghost use Rattle.std.specs.Prelude.{true, IsTrue, IfSome, IfNone};
 ghost use Rattle.std.specs.List.{range_with_len};
-ghost use Rattle.race_model.specs.Books.{whole_in};
 ghost use Rattle.race_model.specs.Files.{share_of};
 ghost use Rattle.race_model.specs.LocalEquations.{whole};
-ghost use Rattle.race_model.specs.Fractions.{IsThousandths};
-ghost use Rattle.bearoff_c.specs.FileBooks.{file_book, book_by, chance_in};
+ghost use Rattle.bearoff_c.specs.FileBooks.{file_book, book_by};
 ghost use Rattle.bearoff_c.specs.Longs.{long_number_of};
 ghost use Rattle.bearoff_c.specs.Refusals.{position_refusal, status_of};
-ghost use Rattle.bearoff_c.specs.Told.{SaysShares};
+ghost use Rattle.bearoff_c.specs.Told.{SaysShares, SaysChance};
 
 use crate::kept::File;
-use crate::long_numbers::Long;
+use crate::numbers::Long;
 use crate::opened::OpenedFile;
 use crate::positions::Counts;
 use crate::ranks::find_in;
@@ -69,10 +67,8 @@ pub struct Chance {
 fn tell_within(opened: &OpenedFile<'_>, position: &Counts, rolls: u8, chance: &mut Chance) -> u32
     ensures status { result ≡ status_of
         (position_refusal true (book_by opened.now).bound position.now.points) }
-    ensures chance { result ≡ 0 → long_number_of chance.new.numerator
-        ≡ chance_in (book_by opened.now) position.now.points rolls }
-    ensures rounded { result ≡ 0 → IsThousandths (long_number_of chance.new.numerator)
-        (whole_in (book_by opened.now)) chance.new.thousandths }
+    ensures chance { result ≡ 0 →
+        SaysChance (book_by opened.now) position.now.points rolls chance.new }
     ensures left { ¬ (result ≡ 0) → chance.new ≡ chance.old }
 {
     laws::law_spread();
@@ -112,10 +108,8 @@ pub extern "C" fn bearoff_within(
 ) -> u32
     ensures status { result ≡ status_of
         (position_refusal file.now.is_open file.now.bound position.now.points) }
-    ensures chance { result ≡ 0 → long_number_of chance.new.numerator
-        ≡ chance_in (file_book file.now.bytes.now) position.now.points rolls }
-    ensures rounded { result ≡ 0 → IsThousandths (long_number_of chance.new.numerator)
-        (whole_in (file_book file.now.bytes.now)) chance.new.thousandths }
+    ensures chance { result ≡ 0 →
+        SaysChance (file_book file.now.bytes.now) position.now.points rolls chance.new }
     ensures left { ¬ (result ≡ 0) → chance.new ≡ chance.old }
 {
     match file.opened() {

@@ -2,17 +2,16 @@
 //! and its wastage.
 ghost use Rattle.std.specs.Prelude.{◌≡◌, ◌+◌, ◌-◌, ◌*◌, ◌<◌, ◌≤◌, ◌↔◌, true, false, IsTrue};
 ghost use Rattle.race_model.specs.Positions.{pips as pips_of};
-ghost use Rattle.race_model.specs.Strategies.{IsLeastIn};
-ghost use Rattle.race_model.specs.Books.{mean_in, whole_in};
-ghost use Rattle.race_model.specs.Fractions.{IsFraction, IsThousandths};
+ghost use Rattle.race_model.specs.Books.{mean_in};
+ghost use Rattle.race_model.specs.Fractions.{IsThousandths};
 ghost use Rattle.fixed_fraction.specs.Board.{board_whole};
-ghost use Rattle.bearoff_c.specs.FileBooks.{file_book, rolls_in, IsRoundedPipsIn};
+ghost use Rattle.bearoff_c.specs.FileBooks.{file_book, IsRoundedPipsIn};
 ghost use Rattle.bearoff_c.specs.Longs.{long_number_of};
 ghost use Rattle.bearoff_c.specs.Refusals.{position_refusal, status_of};
-ghost use Rattle.bearoff_c.specs.Told.{SaysMean, SaysEpc};
+ghost use Rattle.bearoff_c.specs.Told.{SaysMean, SaysRolls, SaysEpc};
 
 use crate::kept::File;
-use crate::long_numbers::{Long, LongFraction, RoundedLong};
+use crate::numbers::{Long, LongFraction, RoundedLong};
 use crate::positions::Counts;
 use crate::ranks::find_in;
 use crate::statuses::{OK, Refusal};
@@ -58,15 +57,8 @@ pub extern "C" fn bearoff_rounded_mean(
 ) -> u32
     ensures status { result ≡ status_of
         (position_refusal file.now.is_open file.now.bound position.now.points) }
-    ensures least { result ≡ 0 → IsLeastIn (rolls_in (file_book file.now.bytes.now))
-        position.now.points (mean_in (file_book file.now.bytes.now) position.now.points) }
-    ensures mean { result ≡ 0 → IsFraction
-        (mean_in (file_book file.now.bytes.now) position.now.points)
-        (whole_in (file_book file.now.bytes.now))
-        (long_number_of rolls.new.exact.numerator) (long_number_of rolls.new.exact.denominator) }
-    ensures rounded { result ≡ 0 → IsThousandths
-        (long_number_of rolls.new.exact.numerator) (long_number_of rolls.new.exact.denominator)
-        rolls.new.thousandths }
+    ensures rolls { result ≡ 0 →
+        SaysRolls (file_book file.now.bytes.now) position.now.points rolls.new }
     ensures left { ¬ (result ≡ 0) → rolls.new ≡ rolls.old }
 {
     let opened = match file.opened() {

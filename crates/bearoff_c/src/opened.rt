@@ -16,8 +16,8 @@ ghost use Rattle.bearoff_c.specs.FileBooks.{book_by, rolls_in};
 ghost use Rattle.bearoff_c.specs.Longs.{long_number_of};
 
 use crate::distributions::{put_shares, shares_by};
-use crate::long_means::LongMean;
-use crate::long_numbers::{Long, LongFraction, RoundedLong};
+use crate::numbers::{Long, LongFraction, RoundedLong};
+use crate::rolls::LongMean;
 use book::{Board, Database, MOST_ROLLS};
 use fixed_fraction::{WHOLE, Wide};
 use home_board::Position;

@@ -1,11 +1,11 @@
 //! What a roll is played with: the recorded play, and the play to a position.
-ghost use Rattle.std.specs.Prelude.{◌≡◌, ◌<◌, ◌≤◌, None, IfOk, map, take, length};
+ghost use Rattle.std.specs.Prelude.{◌≡◌, ◌<◌, ◌≤◌, IfOk, map, take, length};
 ghost use Rattle.race_model.specs.Plays.{Legal};
-ghost use Rattle.race_model.specs.FirstPlays.{IsFirstPlay};
 ghost use Rattle.legal_plays.specs.Faces.{face, roll_of};
 ghost use Rattle.legal_plays.specs.MoveLists.{moves_of};
-ghost use Rattle.bearoff_c.specs.PlayLists.{moves_in, AreZerosAfter};
-ghost use Rattle.bearoff_c.specs.Refusals.{lead_refusal, roll_refusal, refusal_in, status_of};
+ghost use Rattle.bearoff_c.specs.PlayLists.{AreZerosAfter};
+ghost use Rattle.bearoff_c.specs.Refusals.{IsStatusOr, lead_refusal, roll_refusal, refusal_in};
+ghost use Rattle.bearoff_c.specs.Told.{SaysPlayTo};
 
 use crate::positions::Counts;
 use crate::statuses::{OK, Refusal};
@@ -105,17 +105,11 @@ pub extern "C" fn bearoff_play_to(
     to: &Counts,
     play: &mut RecordedPlay,
 ) -> u32
-    ensures not_legal { result ≡ 6 →
-        ¬ Legal position.now.points (roll_of (face one) (face other)) to.now.points }
-    ensures read { result ≡ 6 →
-        lead_refusal position.now.points one other to.now.points ≡ None }
-    ensures status { ¬ (result ≡ 6) →
-        result ≡ status_of (lead_refusal position.now.points one other to.now.points) }
-    ensures to { result ≡ 0 → play.new.to.points ≡ to.now.points }
-    ensures first { result ≡ 0 → IsFirstPlay position.now.points (roll_of (face one) (face other))
-        to.now.points (moves_in play.new) }
-    ensures few { result ≡ 0 → play.new.count ≤ 4 }
-    ensures zeros { result ≡ 0 → AreZerosAfter play.new.count play.new.moves }
+    ensures status { IsStatusOr 6
+        (¬ Legal position.now.points (roll_of (face one) (face other)) to.now.points)
+        (lead_refusal position.now.points one other to.now.points) result }
+    ensures play { result ≡ 0 → SaysPlayTo
+        position.now.points (roll_of (face one) (face other)) to.now.points play.new }
     ensures left { ¬ (result ≡ 0) → play.new ≡ play.old }
 {
     let ends = match read_ends(position, one, other, to) {

@@ -7,7 +7,7 @@ ghost use Rattle.bearoff_c.specs.Told.{SaysMean, SaysEpc, SaysShares};
 
 use crate::distributions::Distribution;
 use crate::kept::File;
-use crate::long_numbers::{Long, RoundedLong};
+use crate::numbers::{Long, RoundedLong};
 use crate::positions::Counts;
 use crate::told::tell_by_rank;
 

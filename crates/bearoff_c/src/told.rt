@@ -11,11 +11,11 @@ ghost use Rattle.bearoff_c.specs.Refusals.{position_refusal, rank_refusal, statu
 ghost use Rattle.bearoff_c.specs.Told.{SaysMean, SaysEpc, SaysShares};
 
 use crate::distributions::{Distribution, add_up, put_shares};
-use crate::long_means::LongMean;
-use crate::long_numbers::{Long, RoundedLong};
+use crate::numbers::{Long, RoundedLong};
 use crate::opened::OpenedFile;
 use crate::positions::Counts;
 use crate::ranks::{find_in, find_ranks_in};
+use crate::rolls::LongMean;
 use crate::statuses::{OK, Refusal};
 use book::{Database, RisingRecords};
 use home_board::Position;

@@ -4,7 +4,7 @@ use Rattle.std.specs.List.{range_with_len}
 use Rattle.std.proofs.lemmas.Bool.{false≢true}
 use Rattle.std.proofs.lemmas.List.{get_or-map}
 use Rattle.bearoff_c.specs.Longs.{long_number_of}
-use Rattle.bearoff_c.specs.declared.long_numbers.Long.{Long}
+use Rattle.bearoff_c.specs.declared.numbers.Long.{Long}
 use Rattle.bearoff_c.proofs.AddedShares.{sum_next, sum_rises}
 use Rattle.bearoff_c.proofs.distributions.shares_to.Goals as goal
 

@@ -98,11 +98,16 @@ pub returns-in-Some-wide_thousandths-clause-chance :
 returns-in-Some-wide_thousandths-clause-chance c = λ ok.
     let at = (goal.at.returns-in-Some-wide_thousandths-clause-chance c).After-shares_to in
     let told = c.in-Ok.ensures {u = tt} in
-    (c.in-Some-shares_to.ensures {u = tt}).value
-    ∙ ap (λ n. sum_by (read at) (range_with_len 0 (n + 1))) (rolls_are at)
-    ∙ chance_of (book_by c.args.opened.now) c.bound-bound.ensures.right
-    c.bound-bound.ensures.long c.args.position.now.points told.position told.within (read at)
-    (shares_are at) c.args.rolls
+    let near = (c.in-Some-wide_thousandths.ensures {u = tt}).value in
+    record {
+      chance =
+          (c.in-Some-shares_to.ensures {u = tt}).value
+          ∙ ap (λ n. sum_by (read at) (range_with_len 0 (n + 1))) (rolls_are at)
+          ∙ chance_of (book_by c.args.opened.now) c.bound-bound.ensures.right
+          c.bound-bound.ensures.long c.args.position.now.points told.position told.within (read at)
+          (shares_are at) c.args.rolls;
+      rounded = rw (c.number.ensures, c.whole.ensures) at near;
+    }
 
 pub returns-in-None-clause-status : goal.returns-in-None-clause-status
 returns-in-None-clause-status c =

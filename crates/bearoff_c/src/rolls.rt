@@ -4,7 +4,7 @@ ghost use Rattle.race_model.specs.Fractions.{IsFraction, IsThousandths};
 ghost use Rattle.race_model.specs.LocalEquations.{whole};
 ghost use Rattle.bearoff_c.specs.Longs.{long_number_of};
 
-use crate::long_numbers::{Long, LongFraction, RoundedLong};
+use crate::numbers::{Long, LongFraction, RoundedLong};
 use epc_query::Number;
 use fixed_fraction::{BoardMean, Scaled, Wide, board_mean_fraction, epc, mean};
 
