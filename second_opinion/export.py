@@ -9,16 +9,16 @@ with open(sys.argv[1], "rb") as file:
 lines = [data[i : i + 426].hex() for i in range(0, len(data), 426)]
 text = ";\n".join(f'"{line}"%hex' for line in lines)
 print(
-    f"""From Coq Require Import List.
-From SecondOpinion Require Import Definitions Files Complete Hex.
+    f"""From Coq Require Import List NArith.
+From SecondOpinion Require Import Specs SameFiles Hex.
 Import ListNotations.
 
 Definition file : list hex := [
 {text}
 ].
 
-Theorem file_is_right : RightFile (told_bytes file).
-Proof. apply is_right_spec. vm_cast_no_check (eq_refl true). Qed.
+Theorem file_is_right : IsRight (map N.to_nat (told_bytes file)).
+Proof. apply is_right_only. vm_cast_no_check (eq_refl true). Qed.
 
 Print Assumptions file_is_right."""
 )

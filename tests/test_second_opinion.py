@@ -1,17 +1,19 @@
-"""The second opinion, which Coq proves in second_opinion/. Its theorems rest on no axiom; Coq
-runs its check over files that the program wrote; the checker that Coq extracts says of each file
-what the program says; what is planted, in a definition or in a file, is refused; and the page
-docs/second-opinion.md says so."""
+"""The second opinion, which Coq proves in second_opinion/ of the definitions that the contracts
+have. Its theorems rest on no axiom; Coq runs its check over files that the program wrote; the
+checker that Coq extracts says of each file what the program says; what is planted, in a definition
+or in a file, is refused; and the page docs/second-opinion.md says so."""
 
 import itertools
 import re
 import shutil
+import subprocess
 
 import pytest
 
-from running import ROOT, expect, need, run, succeed
+from running import ROOT, SLOWER, expect, need, run, succeed
 
 SOURCES = ROOT / "second_opinion"
+SPECS = ROOT / "crates/race_model/specs"
 CLOSED = "Closed under the global context\n"
 
 # what proves and what is proved with one another
@@ -33,22 +35,33 @@ def proof(tmp_path_factory):
     return folder, succeed(SOURCES / "prove", folder, timeout=900).decode("utf-8")
 
 
-def lines_of(*names):
-    """The lines of sources without comments."""
-    text = "".join((SOURCES / name).read_text(encoding="utf-8") for name in names)
-    return sum(1 for line in re.sub(r"(?s)\(\*.*?\*\)", "", text).split("\n") if line.strip())
+@pytest.fixture(scope="module")
+def coqchk(proof):
+    """The check of what was proved, which takes minutes and runs beside the other tests."""
+    words = "coqchk -silent -o -R . SecondOpinion SecondOpinion.Theorems".split()
+    process = subprocess.Popen(
+        words, cwd=proof[0], stdout=subprocess.PIPE, stderr=subprocess.STDOUT
+    )
+    yield process
+    process.kill()
+    process.communicate()
+
+
+def lines_of(path, comment):
+    """The lines of a source without comments."""
+    text = re.sub(comment, "", path.read_text(encoding="utf-8"))
+    return sum(1 for line in text.split("\n") if line.strip())
 
 
 def test_the_page():
-    """The page says how many lines there are, and which lemmas fail."""
+    """The page says how much there is to read, which files there are, and which lemmas fail."""
     page = (ROOT / "docs/second-opinion.md").read_text(encoding="utf-8")
-    proofs = ("Equations.v", "Check.v", "Files.v", "Complete.v", "Built.v", "Examples.v")
-    stated = re.search(r"in (\d+) lines without comments,.*? The ([\d,]+) lines of", page)
-    assert stated and stated.groups() == (
-        f"{lines_of('Definitions.v')}",
-        f"{lines_of(*proofs):,}",
-    )
-    rows = re.search(r"(?s)\n\| What is planted \| The lemma that fails \|\n(.*)", page).group(1)
+    stated = re.search(r"Prelude\.v\), (\d+) lines .*?translate\.py\), (\d+) lines", page)
+    assert stated and [int(number) for number in stated.groups()] == [
+        lines_of(SOURCES / "Prelude.v", r"(?s)\(\*.*?\*\)"),
+        lines_of(SOURCES / "translate.py", r'(?m)^ *#.*$|"""(?s:.*?)"""'),
+    ]
+    rows = re.search(r"(?s)\n\| What is planted \| The lemma that fails \|\n(.*)", page)[1]
     assert re.findall(r"(?m)^\| (.*) \| `(\w+)` \|$", rows) == [
         (what, lemma) for what, (_, _, _, lemma) in PLANTED_DEFINITIONS.items()
     ]
@@ -71,7 +84,7 @@ def small_board(whole, tmp_path_factory):
     return path
 
 
-def test_no_axiom(proof):
+def test_no_axiom(proof, coqchk):
     """Coq lists no axiom under any theorem of Theorems.v, and no source has one."""
     wanted = (SOURCES / "Theorems.v").read_text(encoding="utf-8").count("Print Assumptions")
     said = [line for line in proof[1].splitlines() if not line.startswith("second opinion: ")]
@@ -292,61 +305,106 @@ def test_coq_refuses(proof, built, choices, tmp_path):
 
 
 # what is planted in a definition: the file, what stands there once, what stands there then, and
-# where a proof fails
+# where a proof of Coq fails
 PLANTED_DEFINITIONS = {
-    "a double counts twice": (
-        "Equations.v", "then 1%N else 2%N", "then 2%N else 2%N", "weighted_throws"
+    "each checker counts one pip": (
+        "Positions", "= p * c + pips_from", "= 1 * c + pips_from", "pips_same"
     ),
+    "the rolls begin with index 1": ("Dice", "+ low - 1", "+ low", "roll_index_same"),
     "a checker is borne off from any lower point": (
-        "Definitions.v", "-> Highest x p ->", "-> 0 < count x p /\\ True ->", "Step_load"
+        "Plays", "→ IsHighest x s →", "→ 0 < count x s →", "Step_same"
     ),
     "only the greater die first": (
-        "Definitions.v", "(Run x [a; b] y \\/ Run x [b; a] y)", "Run x [a; b] y", "Legal_roll"
-    ),
-    "a double is played twice": (
-        "Definitions.v", "a = b /\\ Run x [a; a; a; a] y", "a = b /\\ Run x [a; a] y", "Legal_load"
+        "Plays", "(v.second ∷ v.first ∷ [])", "(v.first ∷ v.second ∷ [])", "Legal_same"
     ),
     "a strategy may stop early": (
-        "Definitions.v", "| stop => Finished x", "| stop => Finished x \\/ True",
-        "bounded"
+        "Strategies", "Fits stop x = IsFinished x", "Fits stop x = Unit {0}", "Fits_lift"
     ),
-    "a throw after the end counts": (
-        "Definitions.v", "  | _, _ => 0\n  end.\n\n(* all seq", "  | _, _ => 1\n  end.\n\n(* all seq",
-        "total_stop",
-    ),
+    "a throw after the end counts": ("Strategies", "rolls stop w = 0", "rolls stop w = 1", "rolls_lift"),
     "a right mean need not be the least": (
-        "Definitions.v", " /\\ forall s, Fits s x -> (t <= total m s)%N.", " /\\ True.",
-        "no_better"
+        "Strategies", "→ t ≤ total_over m s", "→ 0 ≤ total_over m s", "Least_same"
     ),
-    "the mean equation counts no roll": (
-        "Equations.v", "(36 * mean (f x) = 36 * whole m + weighted", "(36 * mean (f x) = weighted",
-        "reached",
+    "a game may take a roll more": ("Horizon", "+ 1 + 5) / 6", "+ 7 + 5) / 6", "most_rolls_same"),
+    "more pips come first": (
+        "Ranks", "nat_lt (pips y) (pips x) ||", "nat_lt (pips x) (pips y) ||", "is_before_same"
     ),
-    "the least equation is turned round": (
-        "Equations.v", "(mean (f (play (f x) v)) <= mean (f z))%N;",
-        "(mean (f z) <= mean (f (play (f x) v)))%N;", "bounded",
+    "a file of version 2 has at most 57 pips": (
+        "Versions", "greatest_bound compact = 58", "greatest_bound compact = 57", "greatest_same"
     ),
-    "the share equation skips a roll": (
-        "Equations.v", "weighted (fun v => share (f (play (f x) v)) k))%N }.",
-        "weighted (fun v => share (f (play (f x) v)) (S k)))%N }.", "reached",
+    "a share is not asked": ("Books", "→ k ≤ suc f.further →", "→ suc k ≤ f.further →", "Right_same"),
+    "the plays stand a byte later": ("Files", "(16 + 2 * roll)", "(17 + 2 * roll)", "database_play"),
+    "a count is of a sequence more": ("BoardFiles", "36 ^ (33 - k)", "36 ^ (34 - k)", "book_same"),
+    "a lower part may be as large as one of the upper": (
+        "WrittenNumbers", "(rank x))).lower < 36", "(rank x))).lower ≤ 36", "right_by_checker"
+    ),
+    "numbers need not be written in the one way": (
+        "RightFiles", "→ kind.written f x", "→ Unit {0}", "right_by_checker"
     ),
 }  # fmt: skip
 
 
+def planted_in(folder, name, old, new):
+    """The sources with a definition that is turned: the folder of Coq's, and that of ours."""
+    coq, ours = folder / "second_opinion", folder / "crates/race_model/specs"
+    shutil.copytree(SOURCES, coq)
+    shutil.copytree(SPECS, ours)
+    text = (ours / name).read_text(encoding="utf-8")
+    assert text.count(old) == 1
+    (ours / name).write_text(text.replace(old, new), encoding="utf-8")
+    return coq, ours
+
+
 @pytest.mark.parametrize("what", PLANTED_DEFINITIONS)
 def test_planted_definitions(tmp_path, what):
-    """A proof fails: that of the lemma that is named."""
+    """Coq's text is made anew, and a proof fails of it: that of the lemma that is named. Coq goes
+    over the proofs of the files that compare, and takes those between them as they are stated."""
     need_coq()
     name, old, new, lemma = PLANTED_DEFINITIONS[what]
-    shutil.copytree(SOURCES, tmp_path / "second_opinion")
-    path = tmp_path / "second_opinion" / name
-    text = path.read_text(encoding="utf-8")
-    assert text.count(old) == 1
-    path.write_text(text.replace(old, new), encoding="utf-8")
-    done = run(tmp_path / "second_opinion/prove", tmp_path / "proof", timeout=900)
+    coq, ours = planted_in(tmp_path, f"{name}.antt", old, new)
+    (coq / "Specs.v").write_bytes(succeed(coq / "translate.py", ours))
+    names = re.search(r"for name in ([^;]*);", (coq / "prove").read_text(encoding="utf-8"))[1]
+    steps = [
+        (each, how)
+        for each in names.replace("\\", "").split()
+        for how in (["-vok", "-vos"] if each.startswith("Same") else ["-vos"])
+    ]
+    for each, how in steps:
+        done = run("coqc", how, "-q", "-R", ".", "SecondOpinion", f"{each}.v", cwd=coq)
+        if done.status:
+            break
     place = re.search(rb'File "\./(\w+\.v)", line (\d+)', done.errors)
     assert done.status == 1 and place, done
-    failed = (tmp_path / "proof" / place.group(1).decode("ascii")).read_text(encoding="utf-8")
-    above = "\n".join(failed.split("\n")[: int(place.group(2))])
-    names = re.findall(r"(?m)^(?:Lemma|Theorem|Corollary|Let) (\w+)", above)
+    failed = (coq / place[1].decode("ascii")).read_text(encoding="utf-8")
+    above = "\n".join(failed.split("\n")[: int(place[2])])
+    names = re.findall(r"(?m)^(?:Lemma|Theorem) (\w+)", above)
     assert names and names[-1] == lemma, done.errors.decode("utf-8")
+
+
+# what the script can't read: the file, what stands there once, what stands there then, and what
+# the script names
+UNREAD = {
+    "a sign": ("Positions", "≡ 6", "≅ 6", "length x ≅ 6"),
+    "another kind of definition": ("Ranks", "unfoldable pub boards", "opaque boards", "opaque boards"),
+    "a word of the kit": ("Dice", "min, max,", "min, max, pred,", "use Rattle.std.specs.Prelude"),
+    "a word by another name": ("Plays", "{Die, number,", "{Die, weight as number,", "weight as number"),
+    "a field": ("BoardFiles", "{ number = 3;", "{ numeral = 3;", "numeral"),
+    "a choice": ("Horizon", "most_rolls zero = 0", "most_rolls zero = case 0", "case 0"),
+}  # fmt: skip
+
+
+@pytest.mark.parametrize("what", UNREAD)
+def test_what_is_not_read(tmp_path, what):
+    """The script names the file and what it can't read, and fails."""
+    name, old, new, named = UNREAD[what]
+    coq, ours = planted_in(tmp_path, f"{name}.antt", old, new)
+    done = run(coq / "translate.py", ours)
+    said = done.errors.decode("utf-8")
+    assert done.status == 1 and said.startswith(f"{name}.antt: can't be read: "), done
+    assert named in said
+
+
+def test_coqchk(coqchk):
+    """Another program of Coq goes over what was proved, with the library, and finds no axiom."""
+    said, _ = coqchk.communicate(timeout=1500 * SLOWER)
+    assert coqchk.returncode == 0, said.decode("utf-8")
+    assert b"* Axioms: <none>" in said, said.decode("utf-8")
