@@ -16,8 +16,8 @@ SOURCES = ROOT / "second_opinion"
 SPECS = ROOT / "crates/race_model/specs"
 CLOSED = "Closed under the global context\n"
 
-# what proves and what is proved with one another
-pytestmark = pytest.mark.xdist_group("second_opinion")
+# what proves and what is proved with one another; and a prover is asked
+pytestmark = [pytest.mark.xdist_group("second_opinion"), pytest.mark.proved]
 
 
 def need_coq():
