@@ -89,6 +89,9 @@ def _as_sqlite(rows: Iterator[Tuple[Any, ...]]) -> bytes:
         path = os.path.join(folder, "table")
         try:
             with closing(sqlite3.connect(path)) as file, file:
+                # it is read once and thrown away
+                file.execute("PRAGMA synchronous = OFF")
+                file.execute("PRAGMA journal_mode = OFF")
                 file.execute(f"CREATE TABLE positions ({columns})")
                 file.executemany(f"INSERT INTO positions VALUES ({places})", rows)
                 file.execute("CREATE INDEX positions_by_pips ON positions (pips)")

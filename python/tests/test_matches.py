@@ -554,6 +554,9 @@ class Refusals(unittest.TestCase):
             SAVED.replace("DT[", f"C[{'x' * 10**6}]DT["),
             SAVED.replace("DT[", f"C[{chr(92)}]{'x' * 10**6}]DT["),
             SAVED.replace("PW[gnubg]", f"PW[{'A' * 1000}]"),
+            # behind two backslashes a bracket ends what stands there, and behind three it doesn't
+            SAVED.replace("PW[", f"C[{chr(92) * 2}]PW["),
+            SAVED.replace("PW[", f"C[{chr(92) * 3}]MI[]PW["),
         ):
             self.assertEqual(len(read_match(match).plays), 43)
         told = run_alone(WITH_LITTLE_MEMORY)
