@@ -1,5 +1,6 @@
 // What a caller may hand over. Each argument is read once, into a value of its own, before anything is done with it: so
 // nothing of a wrong one reaches the module, and one that changes while it is read is only what was read.
+import { MOST_FILE_BYTES } from "./kinds.js";
 
 // Six counts and two dice are bytes in the module.
 const MOST_BYTE = 255;
@@ -106,12 +107,37 @@ const tagOf = (value) => Object.prototype.toString.call(value);
 
 const isBuffer = (value) => ["[object ArrayBuffer]", "[object SharedArrayBuffer]"].includes(tagOf(value));
 
-// The bytes of a file: those of a buffer, those that a view of one shows, or what a blob or the answer of a server has.
+// What a stream gives, until it ends or has more bytes than any right file.
+async function readStream(stream) {
+    const [reader, parts] = [stream.getReader(), []];
+    let length = 0;
+    while (length <= MOST_FILE_BYTES) {
+        const { done, value } = await reader.read();
+        if (done) break;
+        if (!(value instanceof Uint8Array)) throw new TypeError(`a file is read as bytes, and not as ${named(value)}`);
+        parts.push(value);
+        length += value.length;
+    }
+    reader.cancel().catch(() => {}); // nobody waits for the rest
+    const bytes = new Uint8Array(length);
+    let place = 0;
+    for (const part of parts) {
+        bytes.set(part, place);
+        place += part.length;
+    }
+    return bytes;
+}
+
+// The bytes of a file: those of a buffer, those that a view of one shows, or what a blob or the answer of a server has. Of
+// these no more is read than is needed to refuse what is too long.
 export async function readBytes(value) {
     if (ArrayBuffer.isView(value)) return new Uint8Array(value.buffer, value.byteOffset, value.byteLength);
     if (isBuffer(value)) return new Uint8Array(value);
     if (typeof value?.arrayBuffer === "function") {
         if (value.ok === false) throw new TypeError(`no file came, but the answer ${value.status} ${value.statusText}`);
+        if (value.bodyUsed) throw new TypeError("the answer was read before");
+        const stream = typeof value.stream === "function" ? value.stream() : value.body;
+        if (typeof stream?.getReader === "function") return readStream(stream);
         const buffer = await value.arrayBuffer();
         if (isBuffer(buffer)) return new Uint8Array(buffer);
     }

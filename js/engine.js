@@ -2,7 +2,7 @@
 // module; what is done is to hand over bytes and to read what came back.
 import { BearoffError, DamagedError, refusal } from "./errors.js";
 import { Fraction, Rounded } from "./fractions.js";
-import { BOARD_VERSION, DATABASE, kindOf, LAST_DATABASE_BOUND } from "./kinds.js";
+import { BOARD_VERSION, DATABASE, kindOf, LAST_DATABASE_BOUND, MOST_FILE_BYTES } from "./kinds.js";
 
 const PAGE_BYTES = 65536;
 const LINE_BYTES = 256; // more than any line that asks something
@@ -14,9 +14,7 @@ const DATABASE_BYTES = 17680;
 // What a call answers: the longest reply to a line, the results of a roll, or a part of a table.
 export const OUTPUT_BYTES = 131072;
 
-// A file of the greatest bound has so many bytes, and a longer one is refused for its length at the latest. Up to 44 pips
-// it has fewer, and its upgrade fewer still.
-const MOST_FILE_BYTES = 15060844;
+// How many bytes other files have: up to 44 pips, of a board, and of an upgrade.
 const OLD_FILE_BYTES = 11209796;
 const BOARD_FILE_BYTES = 14643664;
 const UPGRADE_BYTES = 7608420;

@@ -5,6 +5,9 @@ export const DATABASE = { words: 2, rolls: 22, whole: 36n ** 22n };
 
 export const BOARD = { words: 3, rolls: 33, whole: 36n ** 33n };
 
+// A right file has at most so many bytes, and a longer one is refused for its length at the latest.
+export const MOST_FILE_BYTES = 15060844;
+
 // Over this bound a file that is built is a board file.
 export const LAST_DATABASE_BOUND = 58;
 
