@@ -1,6 +1,7 @@
 // Loads the package as a module into Chromium, from a local server: in a page and in a module worker, where memories have
-// addresses of 64 bits and where they haven't. browser.mjs PACKAGE PROGRAM FOLDER. Says what went wrong, and fails; where
-// Chromium isn't installed it says so.
+// addresses of 64 bits and where they haven't, and as esbuild bundles it for browsers. browser.mjs PACKAGE PROGRAM FOLDER.
+// Says what went wrong, and fails; where Chromium isn't installed it says so.
+import { spawnSync } from "node:child_process";
 import { createServer } from "node:http";
 import { extname } from "node:path";
 import { Browser, installed } from "../../tests/page/browser.mjs";
@@ -38,7 +39,7 @@ onmessage = async ({ data }) => {
 const PAGE = `<!doctype html><meta charset="utf-8"><title>bearoff</title><link rel="icon" href="data:,">
 <script type="module">
 import { loadModule } from "/package/bearoff.js";
-import { told } from "/asked.js";
+const { told } = await import(new URLSearchParams(location.search).get("asked"));
 
 const asked = (words) => new Promise((keep) => {
     const worker = new Worker("/worker.js", { type: "module" });
@@ -55,6 +56,10 @@ if (!program) {
     console.log("js: Chromium isn't installed, so the package was tried under node alone");
     end();
 }
+// the same script with the package in it, as it lies beside the modules' files
+const { stdout: bundle, stderr: refused } = spawnSync("esbuild", ["--bundle", "--platform=browser", "--format=esm"],
+    { input: ASKED.replace("/package/", "./"), cwd: process.argv[2], encoding: "utf8" });
+equal("what esbuild says", refused, "");
 const lines = linesOf("questions_8").slice(300, 500);
 const replies = linesOf("replies_8").slice(300, 500);
 const fetched = [];
@@ -62,7 +67,7 @@ const server = createServer((request, response) => {
     const path = new URL(request.url, "http://localhost").pathname;
     fetched.push(path);
     const given = {
-        "/": PAGE, "/asked.js": ASKED, "/worker.js": WORKER, "/questions": JSON.stringify(lines), "/eight": bytesOf("eight"),
+        "/": PAGE, "/asked.js": ASKED, "/package/asked.js": bundle, "/worker.js": WORKER, "/questions": JSON.stringify(lines), "/eight": bytesOf("eight"),
     }[path] ?? (path.startsWith("/package/") ? packageBytes(path.slice("/package/".length)) : null);
     response.writeHead(given === null ? 404 : 200, { "Content-Type": TYPES[extname(path)] || TYPES[path] || "application/octet-stream" });
     response.end(given ?? "");
@@ -73,12 +78,15 @@ const address = `http://127.0.0.1:${server.address().port}/`;
 const browser = new Browser(program);
 try {
     // the worker that is handed no module finds out for itself what can run there
-    for (const [name, before, form] of [
-        ["as it is", "", "wide"],
-        ["narrowed", "const validate = WebAssembly.validate; WebAssembly.validate = (bytes) => bytes.length !== 13 && validate(bytes);", "narrow"],
+    const NARROWED = "const validate = WebAssembly.validate; WebAssembly.validate = (bytes) => bytes.length !== 13 && validate(bytes);";
+    for (const [name, before, form, asked] of [
+        ["as it is", "", "wide", "/asked.js"],
+        ["narrowed", NARROWED, "narrow", "/asked.js"],
+        ["in a bundle", "", "wide", "/package/asked.js"],
+        ["in a narrowed bundle", NARROWED, "narrow", "/package/asked.js"],
     ]) {
         fetched.length = 0;
-        const page = await browser.open(address, { before });
+        const page = await browser.open(`${address}?asked=${asked}`, { before });
         await page.until("window.done", 30000).catch((error) => wrong(`${name}: ${error.message}; ${page.troubles().join()}; ${fetched.join(" ")}`));
         const done = (await page.value("window.done")) || {};
         for (const [where, is] of Object.entries(done)) {
