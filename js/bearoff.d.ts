@@ -49,20 +49,21 @@ export interface FractionText {
     readonly denominator: string;
 }
 
-/** An exact number that a call has answered. `JSON.stringify` takes it, and as a text it is `5/4`, or `3`. */
+/**
+ * An exact number that a call has answered. `JSON.stringify` takes it, and as a text it is `5/4`, or `3`. In comparisons,
+ * sums and sorts it is the double that is nearest to it, so `==` and `===` between two of them ask whether they are one
+ * object. TypeScript has no sums of objects: there it is `+mean + 1`, or {@link asNumber}.
+ */
 export interface Exact extends Fraction {
+    valueOf(): number;
     toJSON(): FractionText;
     toString(): string;
 }
 
-/** A number in thousandths: a whole number. */
-export interface Thousandths {
+/** An exact number in lowest terms, and in thousandths, a whole number, rounded to the nearest and a half up. */
+export interface Rounded extends Exact {
     readonly thousandths: number;
-}
-
-/** An exact number in lowest terms, and in thousandths, rounded to the nearest and a half up. */
-export interface Rounded extends Exact, Thousandths {
-    toJSON(): FractionText & Thousandths;
+    toJSON(): FractionText & { readonly thousandths: number };
 }
 
 /** One checker's move: from a point, 1 to 6, to a lower one, or to 0 where it is borne off. */
@@ -145,7 +146,10 @@ export class DamagedError extends BearoffError {
     readonly line: string;
 }
 
-/** The bytes of a file: a buffer, a view of one, or what gives a buffer, as a `Blob`, a `File` and a `Response` do. */
+/**
+ * The bytes of a file: a buffer, a view of one, or what gives a buffer, as a `Blob`, a `File` and a `Response` do. Of these
+ * three at most 15 MB are kept: what is longer than any right file is refused without the rest of it being read.
+ */
 export type FileBytes = ArrayBufferLike | ArrayBufferView | { arrayBuffer(): Promise<ArrayBuffer> };
 
 export interface Options {
@@ -240,8 +244,11 @@ export class Bearoff {
     /** The effective pip count of a position of the database, in pips: 49/6 for each roll of the mean. */
     epc(position: Position): Rounded;
 
-    /** The effective pip count of a position of the database, in thousandths, less its pip count. It may be negative. */
-    wastage(position: Position): Thousandths;
+    /**
+     * The effective pip count of a position of the database less its pip count, in pips. It is 0 where no checker is left,
+     * and more of every other position of the home board.
+     */
+    wastage(position: Position): Rounded;
 
     /**
      * The chances of being off in exactly 0 to 22 rolls, from a position of the database by the recorded plays: 23
@@ -250,10 +257,9 @@ export class Bearoff {
     distribution(position: Position): Exact[];
 
     /**
-     * The chance of being off within a number of rolls, 0 or more, from a position of the database by the recorded plays,
-     * rounded to the nearest and a half up.
+     * The chance of being off within a number of rolls, 0 or more, from a position of the database by the recorded plays.
      */
-    within(position: Position, rolls: number): Thousandths;
+    within(position: Position, rolls: number): Rounded;
 
     /** What any position of at most 15 checkers stands at. Refused as `too-many`. */
     standing(position: Position): Standing;

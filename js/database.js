@@ -4,7 +4,7 @@ import {
 } from "./checks.js";
 import { Engine, OUTPUT_BYTES } from "./engine.js";
 import { BearoffError, refusal } from "./errors.js";
-import { Fraction } from "./fractions.js";
+import { Fraction, reduced, Rounded } from "./fractions.js";
 import { BOARD } from "./kinds.js";
 import { Table } from "./numbers.js";
 
@@ -126,9 +126,10 @@ export class Database {
     }
 
     wastage(position) {
-        const engine = this.#askOf("wastage", "bearoff_wastage", position);
-        const thousandths = engine.number(engine.output);
-        return { thousandths: engine.bytes[engine.output + 8] === 0 ? thousandths : -thousandths };
+        const counts = readPosition(position);
+        const { numerator, denominator, thousandths } = this.#rounded("wastage", "bearoff_epc", counts);
+        const { pips } = this.standing(counts);
+        return new Rounded(numerator - BigInt(pips) * denominator, denominator, thousandths - 1000 * pips);
     }
 
     distribution(position) {
@@ -140,7 +141,8 @@ export class Database {
     within(position, rolls) {
         const [counts, most] = [readPosition(position), readRolls(rolls)];
         const engine = this.#askOf("within", "bearoff_within", counts, most);
-        return { thousandths: engine.number(engine.output + MEAN_BYTES) };
+        const chance = reduced(engine.numeral(engine.output), this.whole);
+        return new Rounded(...chance, engine.number(engine.output + MEAN_BYTES));
     }
 
     standing(position) {

@@ -296,22 +296,6 @@ async function refuseTrapped() {
     equal("and only once", (await Engine.start(module)) === waits, false);
 }
 
-// A number that the module says is below the pip count is negative, though none of a database is.
-async function tellBelow() {
-    const module = await loadModule();
-    const { exports } = await WebAssembly.instantiate(module, {});
-    const below = (at, position, out) => {
-        const status = exports.bearoff_wastage(at, position, out);
-        new Uint8Array(exports.memory.buffer)[Number(out) + 8] = 1;
-        return status;
-    };
-    const engine = new Engine({ ...exports, bearoff_wastage: below }, module);
-    engine.put(eight);
-    engine.open();
-    const { Database } = await partOf("database.js");
-    equal("a wastage below", new Database(engine).wastage(SIX).thousandths, -4208);
-}
-
 // Memory that can't grow is an answer, and the databases that are open stay so.
 async function refuseMemory() {
     const module = await loadModule();
@@ -380,7 +364,6 @@ await refuseOpening();
 await refuseDamages();
 await refuseClosed();
 await refuseTrapped();
-await tellBelow();
 await refuseRooms();
 await refuseMissing();
 await refuseMemory();

@@ -28,6 +28,9 @@ const effective: Rounded = database.epc(split);
 const share: Exact | undefined = database.distribution(split)[1];
 const digits: FractionText | undefined = share?.toJSON();
 const thousandths: number = mean.toJSON().thousandths;
+const chance: Rounded = database.within(six, 1);
+const isLess: boolean = mean < effective && chance <= mean;
+const sum: number = +database.wastage(six) + Number(chance) + mean.valueOf();
 const closing: Disposable = await Bearoff.build(0);
 closing[Symbol.dispose]();
 const again: Bearoff = await Bearoff.open(database.upgrade(), { module: await loadModule() });
@@ -52,7 +55,7 @@ const refused: string = await Bearoff.open(source).then(() => "none", named);
 const refusal: string = await Promise.resolve("").then(read).then(() => "none", named);
 const told = [notations.join(" "), pips, refusal,
     exact, mean.denominator, texts.join(" "), first?.to.join(), loss.numerator, counts.join(), over[1] === doubles[1] && itsWhole === whole && asDoubles(part).length === 1 ? doubles[1]?.toFixed(3) : "another", again.version,
-    again.wastage(six).thousandths, asNumber(again.distribution(six)[1]!).toFixed(2), refused,
+    `${again.wastage(six)}`, `${chance}`, isLess, sum.toFixed(3), asNumber(again.distribution(six)[1]!).toFixed(2), refused,
     effective.thousandths, digits?.numerator === `${share?.numerator}`, thousandths, JSON.stringify([mean, loss])];
 console.log(told.join("; "));
 
@@ -66,6 +69,29 @@ export async function wrong(): Promise<void> {
     asNumber(mean.toJSON());
     // @ts-expect-error nothing that closes it is handed over
     database[Symbol.dispose](database);
+    // @ts-expect-error a sum of an object and a number
+    void (mean + 1);
+    // @ts-expect-error a sum of two objects
+    void (mean + loss);
+    // @ts-expect-error a difference of two objects
+    void (mean - effective);
+    // @ts-expect-error an object as the base of a power
+    void (mean ** 2);
+    // @ts-expect-error an object and a number are compared
+    void (mean < 2);
+    // @ts-expect-error they can't be equal
+    void (mean === 1.25);
+    // @ts-expect-error an object where a number is wanted
+    Math.max(mean, 1);
+    // @ts-expect-error an object that is a number
+    const rolls: number = database.within(six, 1);
+    void rolls;
+    // @ts-expect-error thousandths are no fraction
+    asNumber(mean.thousandths);
+    // @ts-expect-error and can't be changed
+    mean.thousandths = 1;
+    // @ts-expect-error a share has no thousandths
+    void share?.thousandths;
     // @ts-expect-error a text
     database.mean("0,0,0,0,0,1");
     // @ts-expect-error a text among counts

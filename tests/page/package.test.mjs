@@ -4,8 +4,8 @@
 // hostile arguments of each kind; a thousand openings in one process; positions in other
 // notations, which GNU Backgammon has written and read; its types under tsc --strict, with lines
 // that may not compile; the examples of docs/embedding.md and of js/README.md; and in Chromium,
-// where it is installed, as a module in a page and in a worker. What is tried is what its archive
-// has.
+// where it is installed, as a module in a page and in a worker, and in a bundle of esbuild. What is
+// tried is what its archive has.
 import assert from "node:assert/strict";
 import { spawnSync } from "node:child_process";
 import {
@@ -20,7 +20,7 @@ import { modulesFolder, programPath, ROOT, testedFolder } from "./given.mjs";
 
 const WIDE = "--experimental-wasm-memory64";
 const TYPED = "XGID=-C--B-A------------d--cba-:0:0:-1:21:0:0:0:0:10 AAAA2vEAAAAAAA:cAkFAAAAAAAE top 21; 38; "
-    + "malformed; 5; 4; 6/4 4/3; 0,0,1,0,0,0; 0; 0,0,0,0,0,1; 1.000; 2; 4208; 0.75; damaged too-short "
+    + "malformed; 5; 4; 6/4 4/3; 0,0,1,0,0,0; 0; 0,0,0,0,0,1; 1.000; 2; 101/24; 3/4; true; 6.208; 0.75; damaged too-short "
     + "header too-short; 10208; true; 1250; "
     + '[{"numerator":"5","denominator":"4","thousandths":1250},{"numerator":"0","denominator":"1"}]\n';
 // what belongs in the package, and nothing else
@@ -154,7 +154,7 @@ test("the examples of js/README.md", () => {
         "assert.deepStrictEqual(structuredClone($1), $2);");
     const tables = "assert.deepStrictEqual([means, points, shares].map((table) => table.length / 26314), [1, 6, 23]);";
     const text = `import assert from "node:assert";\n${told}${tables}\n`;
-    assert.equal(text.match(/^assert/gm).length, 14, "js/README.md has no examples that tell thirteen answers");
+    assert.equal(text.match(/^assert/gm).length, 15, "js/README.md has no examples that tell fourteen answers");
     writeFileSync(join(site, "readme.js"), text);
     assert.equal(run([process.execPath, "readme.js"], { cwd: site }), "");
 });
