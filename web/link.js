@@ -4,11 +4,12 @@ import { isTooLong, MOST_TEXT } from "../js/checks.js";
 import { NoRaceError, read } from "../js/notation.js";
 import { FIRST, GREATEST, MOST_CHECKERS, readPoints, sumOf } from "./points.js";
 import { ASKED, ESTIMATED, readDrill, readDue, readSeed, writeDue } from "./questions.js";
+import { oneLine } from "./texts.js";
 import { LEVELS, themeOf } from "./themes.js";
 import { readLessons } from "./trainer.js";
 
 export const MOST_KEPT = 10;
-const LONGEST_CAPTION = 200;
+export const LONGEST_CAPTION = 200;
 
 // How many characters an address may have behind its hash: a lesson of the greatest length, written
 // as addresses are, and more.
@@ -53,8 +54,6 @@ export function readTyped(typed) {
         return isId ? { fault: `This is no bearoff race: ${error.message}` } : counts;
     }
 }
-
-const text = (word) => (word || "").replace(/\s+/g, " ").trim().slice(0, LONGEST_CAPTION);
 
 // What of a link can't be taken, in sentences: each word with what it has to be.
 function faultsOf(words, drill) {
@@ -124,14 +123,14 @@ export function readLink(hash) {
                 kept.push(last);
             }
         }
-        if (name === "c" && last && last.caption === "") last.caption = text(value);
+        if (name === "c" && last && last.caption === "") last.caption = oneLine(value, LONGEST_CAPTION);
     }
     const roll = /^[1-6]{2}$/.test(words.get("roll") || "")
         ? [...words.get("roll")].map(Number) : null;
     return {
         points: readPoints(words.get("at") || "") || (kept.length > 0 ? kept[0].points : START),
         kept,
-        title: text(words.get("t")),
+        title: oneLine(words.get("t") || "", LONGEST_CAPTION),
         roll: roll && roll.sort((one, other) => other - one),
         guess: words.get("guess") === "1",
         // older links ask for 58

@@ -3,7 +3,7 @@
 // each with its day. All are whole numbers; it is one text of lines, which can be taken along and
 // read in again.
 import { readPoints, sumOf } from "./points.js";
-import { dailyLevel, ESTIMATED, TEN } from "./questions.js";
+import { dailyLevel, ESTIMATED, MOST_LOST, TEN } from "./questions.js";
 import { themeOf, THEMES } from "./themes.js";
 
 // Texts of version 2 have no rating, and those of version 1 no estimates that come back.
@@ -28,10 +28,13 @@ export const EMPTY = {
 };
 
 const DAY = 86400000; // milliseconds
+const MOST_DAY = 900_000; // so that what comes back later is a day of six digits, too
+const MOST_COUNT = 9_999_999;
+const MOST_SUM = 999_999_999;
 
-// The number of a local day.
-export const dayOf = (date) =>
-    Math.floor((date.getTime() - date.getTimezoneOffset() * 60000) / DAY);
+// The number of a local day, from 1 on, whatever the clock says.
+export const dayOf = (date) => Math.max(1, Math.min(MOST_DAY,
+    Math.floor((date.getTime() - date.getTimezoneOffset() * 60000) / DAY)));
 
 // Which question it is: a roll of a position, or, without a roll, what is estimated of it.
 const cardKey = ({ points, roll, theme }) =>
@@ -46,10 +49,17 @@ export const dueOn = ({ cards }, day, ask = null) => cards
         due <= day && (ask === null || (ask === "play" ? roll !== null : !roll && theme === ask)))
     .sort((one, other) => one.due - other.due || other.lost - one.lost);
 
+// Sums as they are kept, each at most so much.
+const within = (mosts, sums) => sums.map((sum, place) => Math.min(mosts[place], sum));
+
+const MOST_TALLIED = [MOST_COUNT, MOST_COUNT, MOST_SUM];
+const MOST_RATED = [MOST_SUM, MOST_SUM, MOST_COUNT];
+
 // Rows of counts by their first column, with more in one of them.
 function tallied(rows, key, more) {
     const found = rows.find(([name]) => name === key);
-    const next = [key, ...more.map((count, place) => count + (found ? found[place + 1] : 0))];
+    const sums = more.map((count, place) => count + (found ? found[place + 1] : 0));
+    const next = [key, ...within(MOST_TALLIED, sums)];
     return found ? rows.map((row) => (row === found ? next : row)) : [...rows, next];
 }
 
@@ -67,10 +77,10 @@ const sizeOf = (lost) => SIZES.filter((size) => lost >= size).length;
 
 // The cards after an answer to one of them, or to another question: what is missed goes to the
 // first box; what was due and is right goes one box on; what is right before it is due stays where
-// it is.
+// it is. Of a position without a checker nothing comes back.
 function carded(cards, card, { points, roll, theme, lost, isMissed }, day) {
     const isDue = card && card.due <= day;
-    if (!isMissed && !isDue) return cards;
+    if ((!isMissed && !isDue) || sumOf(points) === 0) return cards;
     const box = isMissed ? 0 : card.box + 1;
     const next = {
         ...(isMissed ? { points, roll, lost } : card), theme: card?.theme ?? theme, box,
@@ -81,10 +91,10 @@ function carded(cards, card, { points, roll, theme, lost, isMissed }, day) {
 }
 
 // The rating's sums after a play that lost so many thousandths, where the natural one loses others.
-const rated = ([lost, natural, plays], more) => [
+const rated = ([lost, natural, plays], more) => within(MOST_RATED, [
     lost - Math.floor(lost / FADING) + 1000 * more.lost,
     natural - Math.floor(natural / FADING) + 1000 * more.natural, plays + 1,
-];
+]);
 
 // Of a hundred parts of what natural plays would have lost in the place of the last plays, those
 // that weren't lost: 100 for no loss, 0 for as much as they, less for more; null until it is known.
@@ -97,18 +107,19 @@ export function ratingOf({ rating: [lost, natural, plays] }) {
 // are thousandths of a roll, or of a pip for an estimate, `natural` are those of a natural play in
 // its place, `card` is the question that comes back where one like it was asked in its place, and
 // `isLast` says whether a drill had no other one.
-export function answered(memory, answer, day) {
+export function answered(memory, told, day) {
+    const answer = { ...told, lost: Math.min(MOST_LOST, told.lost) };
     const { roll, lost, isMissed, isLast } = answer;
     const asked = cardOf(memory.cards, answer.card ?? answer);
     const theme = asked ? asked.theme : answer.theme;
     const cards = carded(memory.cards, asked, answer, day);
     const isLearnt = cards.length < memory.cards.length;
     return {
-        cards: boundedCards(cards), learnt: memory.learnt + (isLearnt ? 1 : 0),
+        cards: boundedCards(cards), learnt: Math.min(MOST_COUNT, memory.learnt + (isLearnt ? 1 : 0)),
         days: boundedDays(tallied(memory.days, day, [1, isMissed ? 1 : 0, isLast ? 1 : 0])),
         themes: tallied(memory.themes, theme, [1, isMissed ? 1 : 0, lost]),
         sizes: memory.sizes.map((count, size) =>
-            count + (roll && isMissed && size === sizeOf(lost) ? 1 : 0)),
+            Math.min(MOST_COUNT, count + (roll && isMissed && size === sizeOf(lost) ? 1 : 0))),
         rating: roll ? rated(memory.rating, answer) : memory.rating,
     };
 }
@@ -184,6 +195,7 @@ export const written = ({ days, cards, themes, sizes, learnt, rating }) => [
 ].join("\n");
 
 const isNew = (rows, key) => !rows.some(([name]) => name === key);
+const isTally = ([asked, missed]) => missed <= asked;
 
 // What a line says behind its word, and the memory with it, or null where it can't be taken. No row
 // stands twice.
@@ -195,17 +207,19 @@ const LINES = {
         ({ ...memory, rating: sums.map(Number) })],
     theme: [/^([a-z]+) (\d{1,7}) (\d{1,7}) (\d{1,9})$/, (memory, [name, ...counts]) =>
         ((themeOf(name) || ESTIMATED.includes(name)) && isNew(memory.themes, name)
+            && isTally(counts.map(Number))
             ? { ...memory, themes: [...memory.themes, [name, ...counts.map(Number)]] } : null)],
-    day: [/^(\d{1,6}) (\d{1,6}) (\d{1,6}) (\d{1,6})$/, (memory, counts) => {
-        const row = counts.map(Number);
-        return isNew(memory.days, row[0]) ? { ...memory, days: [...memory.days, row] } : null;
+    day: [/^(\d{1,6}) (\d{1,7}) (\d{1,7}) (\d{1,9})$/, (memory, [day, ...counts]) => {
+        const row = [Number(day), ...counts.map(Number)];
+        return isNew(memory.days, row[0]) && isTally(row.slice(1))
+            ? { ...memory, days: [...memory.days, row] } : null;
     }],
     card: [/^([\d,]+) (?:([1-6])([1-6])|-) ([a-z]+) ([0-4]) (\d{1,6}) (\d{1,6})$/,
         (memory, [counts, high, low, theme, ...numbers]) => {
             const [points, roll] = [readPoints(counts), high ? [Number(high), Number(low)] : null];
             const [box, due, lost] = numbers.map(Number);
             if (!points || sumOf(points) === 0 || high < low
-                || !(roll ? themeOf(theme) : ESTIMATED.includes(theme))) return null;
+                || !(roll ? themeOf(theme)?.isPlayed : ESTIMATED.includes(theme))) return null;
             const card = { points, roll, theme, box, due, lost };
             return cardOf(memory.cards, card) ? null
                 : { ...memory, cards: [...memory.cards, card] };

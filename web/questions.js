@@ -18,6 +18,9 @@ export const WANTED = { pips: "pip count", effective: "EPC", wastage: "wastage" 
 // wrong.
 export const FAR = { pips: 1n, effective: 1000n, wastage: 1000n };
 
+// How much an answer is kept to have lost, in thousandths: estimates can be further off.
+export const MOST_LOST = 999_999;
+
 // How many pips the questions of a drill can have.
 export const mostOf = ({ theme, due = [] }) => Math.max(themeOf(theme).most ?? FIRST,
     ...due.map((one) => (pipsOf(one.points) > FIRST ? GREATEST : themeOf(one.theme)?.most ?? 0)));

@@ -1,17 +1,18 @@
 // What a pupil did in a drill, as a text that goes back to a teacher, and what a class did in one.
-import { FAR, readDrill } from "./questions.js";
+import { FAR, MOST_LOST, readDrill } from "./questions.js";
+import { oneLine } from "./texts.js";
 
 const VERSION = 1;
 const LONGEST_NAME = 60;
 export const MOST_LETTERS = 200_000; // of the texts of a class
 
-const clean = (name) => name.replace(/\s+/g, " ").trim().slice(0, LONGEST_NAME);
+const clean = (name) => oneLine(name, LONGEST_NAME);
 
 // A drill's result as a text: which drill, whose result, and what each answer lost, in thousandths
 // of a roll, or of a pip where a number was estimated; a question without an answer has a dash.
 export const writeResult = ({ theme, seed, ask, level = "any" }, name, lost) => [
     `bearoff result ${VERSION}`, `drill ${theme} ${seed} ${ask} ${level}`, `name ${clean(name)}`,
-    `lost ${lost.map((one) => one ?? "-").join(" ")}`,
+    `lost ${lost.map((one) => (one === null ? "-" : Math.min(MOST_LOST, one))).join(" ")}`,
 ].join("\n");
 
 const LINE = /^(bearoff result|drill|name|lost) ?(.*)$/;

@@ -22,6 +22,12 @@ export const REFUSALS = {
     4: "The position has more pips than the database.",
 };
 
+// A text as it is kept: on one line, of at most so many characters, none of them a half of one. As
+// it is kept it stays what it is.
+export const oneLine = (text, most) =>
+    text.replace(/\p{Surrogate}/gu, "").replace(/\s+/g, " ").trim().slice(0, most)
+        .replace(/[\ud800-\udbff]$/, "").trimEnd();
+
 // Thousandths as a decimal.
 export function decimal(thousandths) {
     const digits = thousandths.toString().padStart(4, "0");

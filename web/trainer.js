@@ -4,15 +4,16 @@ import { isTooLong } from "../js/checks.js";
 import { readPoints } from "./points.js";
 import { ESTIMATED } from "./questions.js";
 import { ESTIMATES, isRule, OWN } from "./rules.js";
+import { oneLine } from "./texts.js";
 
 const MOST_STEPS = 60;
-const LONGEST_TEXT = 1200;
+export const LONGEST_TEXT = 1200; // of a step, in characters
 
 // How many characters the text of lessons may have.
 export const MOST_LESSONS = 1_000_000;
 
 const LINE = /^(lesson|step|roll|estimate|rule|text|ask|answer):[ \t]*(.*)$/;
-const clean = (text) => text.replace(/\s+/g, " ").trim().slice(0, LONGEST_TEXT);
+const clean = (text) => oneLine(text, LONGEST_TEXT);
 
 // The lessons that a text has: lines with a word, a colon and what it says. A line without such a
 // word goes on with the one before it, an empty line ends it. Why it is refused, where it is: the

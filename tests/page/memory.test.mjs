@@ -306,7 +306,7 @@ test("a text with a fault is refused whole, by the number of its line", () => {
         "", "day x", "day 1 1 1", "day 1 1 1 1 1", "day 1234567 1 1 1", "card 16,0,0,0,0,0 31 all 0 1 1",
             "card 0,0,0,0,0,0 31 all 0 1 1", "card 1,0,0,0,0,0 71 all 0 1 1", "card 1,0,0,0,0,0 13 all 0 1 1",
         "card 1,0,0,0,0,0 31 all 5 1 1", "card 1,0,0,0,0,0 31 none 0 1 1", "card 1,0,0,0,0,0 31 effective 0 1 1",
-            "card 1,0,0,0,0,0 - all 0 1 1", "card 1,0,0,0,0,0 - effective 5 1 1", "constructor 1", "toString 1",
+            "card 1,0,0,0,0,0 - all 0 1 1", "card 2,0,0,0,0,0 31 ace 0 1 1", "day 1 4 5 0", "theme all 0 1 1", "card 1,0,0,0,0,0 - effective 5 1 1", "constructor 1", "toString 1",
             "theme nowhere 1 1 1", "theme all -1 1 1", "theme all 1.5 1 1",
         "sizes 1 2", "learnt", "rating 1000 1", "rating 1 -1 1", "rating 1234567890 1 1", "Day 1 1 1 1", good,
     ]) assert.equal(faultOf(good, line, "day 1 1 1 1"), "Line 3 can't be read.", line);

@@ -1,8 +1,6 @@
 // A lesson that is made on the page.
-import { readLessons, writeLesson } from "../trainer.js";
-
-// What was typed for a lesson, on one line.
-const onOneLine = (text) => text.replace(/\s+/g, " ").trim();
+import { oneLine } from "../texts.js";
+import { LONGEST_TEXT, readLessons, writeLesson } from "../trainer.js";
 
 const draftOf = (state, steps) => ({ ...state, draft: { ...state.draft, steps }, draftTold: "" });
 
@@ -25,7 +23,7 @@ export function beginDraft(state) {
 export const closeDraft = (state) => ({ ...state, draft: null, draftTold: "" });
 
 export const titleDraft = (state, title) => ({
-    ...state, draft: { ...state.draft, title: onOneLine(title) }, draftTold: "",
+    ...state, draft: { ...state.draft, title: oneLine(title, LONGEST_TEXT) }, draftTold: "",
 });
 
 export const addDraft = (state) =>
@@ -37,7 +35,7 @@ export const removeDraft = (state, place) =>
 export const writeDraft = (state, place, word, text) =>
     draftOf(state,
         state.draft.steps.map((step, other) =>
-            (other === place ? { ...step, [word]: onOneLine(text) } : step)));
+            (other === place ? { ...step, [word]: oneLine(text, LONGEST_TEXT) } : step)));
 
 // A step at another place.
 export function moveDraft(state, from, to) {

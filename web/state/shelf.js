@@ -1,4 +1,6 @@
 // The positions that are kept side by side.
+import { LONGEST_CAPTION } from "../link.js";
+import { oneLine } from "../texts.js";
 import { isFull, isKept, keyOf } from "./reads.js";
 
 // Keeps the board's position.
@@ -16,7 +18,8 @@ export function remove(state, key) {
         ? state : { ...state, kept, said: "The position is removed." };
 }
 
-export function setCaption(state, key, caption) {
+export function setCaption(state, key, typed) {
+    const caption = oneLine(typed, LONGEST_CAPTION);
     return {
         ...state, kept: state.kept.map((entry) =>
             (keyOf(entry.points) === key ? { ...entry, caption } : entry)),
