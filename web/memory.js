@@ -11,7 +11,6 @@ export const VERSION = 3;
 export const MOST_CARDS = 300;
 export const MOST_DAYS = 400;
 export const MOST_LETTERS = 100_000; // of a text that is read in
-const MOST_DUE = 6; // of today's ten, so that some are always new
 const LIKE = 2; // the box from which on a question like it is asked
 const KNOWN = 5; // answers after which it is known how much a theme loses
 const FADING = 50; // a play counts a fiftieth less in the rating with each further one
@@ -42,12 +41,14 @@ const cardKey = ({ points, roll, theme }) =>
 
 const cardOf = (cards, question) => cards.find((one) => cardKey(one) === cardKey(question));
 
-// Those that come back on a day or before: the longest due first, and of these the dearest. All, or
-// the plays, or those of which one thing is estimated.
+// Those that come back on a day or before: the least known first, and of these what was missed last,
+// so that a miss comes back the next day however many wait, and then the dearest. All, or the plays,
+// or those of which one thing is estimated.
 export const dueOn = ({ cards }, day, ask = null) => cards
     .filter(({ due, roll, theme }) =>
         due <= day && (ask === null || (ask === "play" ? roll !== null : !roll && theme === ask)))
-    .sort((one, other) => one.due - other.due || other.lost - one.lost);
+    .sort((one, other) =>
+        one.box - other.box || other.due - one.due || other.lost - one.lost);
 
 // Sums as they are kept, each at most so much.
 const within = (mosts, sums) => sums.map((sum, place) => Math.min(mosts[place], sum));
@@ -75,16 +76,16 @@ export const SIZES = [20, 80];
 
 const sizeOf = (lost) => SIZES.filter((size) => lost >= size).length;
 
-// The cards after an answer to one of them, or to another question: what is missed goes to the
-// first box; what was due and is right goes one box on; what is right before it is due stays where
-// it is. Of a position without a checker nothing comes back.
+// The cards after an answer to one of them, or to another question: what is missed goes one box
+// back, and comes back tomorrow; what was due and is right goes one box on; what is right before it
+// is due stays where it is. Of a position without a checker nothing comes back.
 function carded(cards, card, { points, roll, theme, lost, isMissed }, day) {
     const isDue = card && card.due <= day;
     if ((!isMissed && !isDue) || sumOf(points) === 0) return cards;
-    const box = isMissed ? 0 : card.box + 1;
+    const box = isMissed ? Math.max(0, (card?.box ?? 0) - 1) : card.box + 1;
     const next = {
         ...(isMissed ? { points, roll, lost } : card), theme: card?.theme ?? theme, box,
-        due: day + BOXES[box],
+        due: day + (isMissed ? 1 : BOXES[box]),
     };
     const rest = cards.filter((one) => one !== card && cardKey(one) !== cardKey(next));
     return box < BOXES.length ? [...rest, next] : rest;
@@ -106,7 +107,7 @@ export function ratingOf({ rating: [lost, natural, plays] }) {
 // The memory after an answer on a day: `theme` is that of the drill, or what is estimated, `lost`
 // are thousandths of a roll, or of a pip for an estimate, `natural` are those of a natural play in
 // its place, `card` is the question that comes back where one like it was asked in its place, and
-// `isLast` says whether a drill had no other one.
+// `isLast` says whether today's ten are done with it.
 export function answered(memory, told, day) {
     const answer = { ...told, lost: Math.min(MOST_LOST, told.lost) };
     const { roll, lost, isMissed, isLast } = answer;
@@ -127,9 +128,12 @@ export function answered(memory, told, day) {
 // How much was answered on a day.
 export const askedOn = ({ days }, day) => days.find(([one]) => one === day)?.[1] ?? 0;
 
-// How many days in a row had ten answers, up to today or yesterday.
+// Whether a day's ten are done.
+export const isDoneOn = ({ days }, day) => days.some(([one, , , tens]) => one === day && tens > 0);
+
+// On how many days in a row the ten were done, up to today or yesterday.
 export function streak({ days }, today) {
-    const full = new Set(days.filter(([, asked]) => asked >= TEN).map(([day]) => day));
+    const full = new Set(days.filter(([, , , tens]) => tens > 0).map(([day]) => day));
     let [count, day] = [0, full.has(today) ? today : today - 1];
     for (; full.has(day); day -= 1) count += 1;
     return count;
@@ -163,14 +167,15 @@ const APART = 100_000; // seeds between two drills of a day
 const backOf = ({ points, roll, theme, box }) =>
     ({ points, roll, ...(roll && box >= LIKE ? { theme } : {}) });
 
-// Today's ten, as a drill: at most six that come back, and the rest new, by the number of the day,
-// so that who begins on one day is asked the same. What follows on that day has another seed.
+// Today's ten, as a drill: first those that come back, and the rest new, by the number of the day, so
+// that who begins on one day is asked the same. Where ten come back none is new: so no more wait than
+// a student can answer. What follows on that day has another seed.
 export function todays(memory, day) {
     const theme = weakest(memory, day);
     return {
         theme, seed: day + APART * Math.min(askedOn(memory, day), 1000),
         ask: "play", level: dailyLevel(theme),
-        due: dueOn(memory, day, "play").slice(0, MOST_DUE).map(backOf),
+        due: dueOn(memory, day, "play").slice(0, TEN).map(backOf),
     };
 }
 

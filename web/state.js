@@ -137,7 +137,9 @@ const leastLoss = (plays) => Math.min(...plays.map(({ loss }) => Number(loss)));
 export function answeredBetween(before, after) {
     const { drill } = after;
     if (drill !== before.drill) return null;
-    const isLast = Boolean(drill) && answeredOf(after) === after.questions?.length;
+    // of today's ten, which other drills don't count for
+    const isLast = Boolean(drill?.due) && drill.ask === "play"
+        && answeredOf(after) === after.questions?.length;
     if (drill?.ask === "play" && drillGuesses(after).length > drillGuesses(before).length) {
         const { at, roll, play } = after.guesses.at(-1);
         const { card } = after.questions.find((question) =>

@@ -1,7 +1,7 @@
 // What is shown to a student who comes back: today's ten, what was done, and what of it is kept.
 import { h } from "./tree.js";
 import {
-    askedOn, BOXES, dueOn, isKnown, ratingOf, SIZES, streak, todays, todaysEstimates, written,
+    BOXES, dueOn, isDoneOn, isKnown, ratingOf, SIZES, streak, todays, todaysEstimates, written,
 } from "./memory.js";
 import { ASKED, TEN } from "./questions.js";
 import { themeOf } from "./themes.js";
@@ -14,22 +14,26 @@ const button = (key, text, click, more = {}) =>
 
 const many = (count, one, more) => `${count} ${count === 1 ? one : more}`;
 
-// How many come back on the next day.
+// How many come back on the next day, of plays no more than ten.
 export const comesBack = ({ memory, day }) => {
     const count = dueOn(memory, day + 1).length;
+    const waiting = Math.max(0, dueOn(memory, day + 1, "play").length - TEN);
     return count === 0 ? "Nothing comes back tomorrow."
+        : waiting > 0 ? `${count - waiting} of ${count} questions come back tomorrow, what you `
+            + "missed last first."
         : `${many(count, "question comes", "questions come")} back tomorrow.`;
 };
 
 // What today's ten are, in a sentence.
 function told({ memory, day }) {
-    if (askedOn(memory, day) >= TEN) {
+    if (isDoneOn(memory, day)) {
         return `Today\u2019s ten are done. ${comesBack({ memory, day })}`;
     }
     if (memory.days.length === 0) {
         return "Ten plays, the same for all who begin today. What you miss comes back tomorrow.";
     }
     const { due, theme } = todays(memory, day);
+    if (due.length === TEN) return "Ten that you missed come back. New ones follow these.";
     const fresh = `${TEN - due.length} are new: ${themeOf(theme).words}`
         + `${isKnown(memory) ? ", where you lose most" : ""}.`;
     return due.length === 0 ? fresh
@@ -84,13 +88,14 @@ function all({ memory, isMemoryOpen, memoryFault, memoryTold }, act) {
     const runs = memory.days.reduce((sum, [, , , count]) => sum + count, 0);
     return h("div", { class: "all-kept" },
         opening,
-        h("p", {}, `${many(runs, "drill was", "drills were")} ended. `,
+        h("p", {}, `Today\u2019s ten were done ${runs === 1 ? "once" : `${runs} times`}. `,
             "Misses by what they lost, in rolls: ",
             memory.sizes.map((count, size) => `${count} ${SIZE_NAMES[size]}`).join(", "), "."),
         h("p", {}, "What comes back, by days: ", BOXES.map((days, box) =>
             `${memory.cards.filter((card) => card.box === box).length} after ${days}`).join(", "),
             `; ${memory.learnt} learnt. `,
-            "A miss comes back the next day, and each time that it is right, later."),
+            "A miss comes back the next day, and each time that it is right, later; a further miss ",
+            "takes it one step back."),
         h("p", {}, "The rating looks at about the last fifty plays: 100 where nothing was lost, 0 ",
             "where as much was lost as by the play that bears off the most checkers and then ",
             "fills the most points."),
@@ -108,17 +113,18 @@ function all({ memory, isMemoryOpen, memoryFault, memoryTold }, act) {
         h("p", { role: "status", class: "hint" }, memoryTold));
 }
 
-// How many questions of a drill come back.
-const counted = ({ due }) => `${due.length} again, ${TEN - due.length} new`;
+// How many questions of a drill come back, and how many are new.
+export const counted = ({ due: { length } }) => [
+    length > 0 && `${length} again`, length < TEN && `${length === 0 ? "ten" : TEN - length} new`,
+].filter(Boolean).join(", ");
 
 // The panel: one button, what was done, and all that is kept.
 export function student(state, act) {
     const { memory, day, unkept } = state;
-    const isDone = askedOn(memory, day) >= TEN;
+    const isDone = isDoneOn(memory, day);
     const row = streak(memory, day);
     const ten = todays(memory, day);
     const estimates = todaysEstimates(memory, day);
-    const counts = ten.due.length > 0 ? counted(ten) : "ten new";
     const [asked, lost] = memory.themes.filter(([name]) => themeOf(name))
         .reduce(([count, sum], [, one, , more]) => [count + one, sum + more], [0, 0]);
     const each = decimal(Math.round(lost / Math.max(1, asked)));
@@ -127,7 +133,7 @@ export function student(state, act) {
         h("div", { class: "daily" },
             h("h2", {}, "Today\u2019s ten"),
             h("p", { class: "daily-told" }, told(state)),
-            button("today", [h("b", {}, isDone ? "Ten more" : "Begin"), " ", h("span", {}, counts)],
+            button("today", [h("b", {}, isDone ? "Ten more" : "Begin"), " ", h("span", {}, counted(ten))],
                 () => act.today(), { class: isDone ? "begin" : "begin first" }),
             estimates && button("estimates", [
                 h("b", {}, "Estimates"), " ",

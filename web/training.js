@@ -2,7 +2,7 @@
 import { decimal } from "./texts.js";
 import { lookedAt } from "./board.js";
 import { COMING, dicePicture } from "./panels.js";
-import { comesBack } from "./student.js";
+import { comesBack, counted } from "./student.js";
 import { h } from "./tree.js";
 import { ASKED, askedFor, drillName, ESTIMATED, mostOf, TEN, WANTED } from "./questions.js";
 import { classOf, readResults } from "./results.js";
@@ -116,7 +116,7 @@ function drawnBy({ drill, questions }) {
     const { seed, theme, due } = drill;
     const how = !due ? `Seed ${seed}.`
         : due.length === 0 ? `Ten that are new: ${themeOf(theme).words}.`
-        : `${due.length} again, ${TEN - due.length} new: ${themeOf(theme).words}.`;
+        : `${counted(drill)}${due.length < TEN ? `: ${themeOf(theme).words}` : ""}.`;
     const [found, wanted] = [questions?.length, askedFor(drill)];
     return !questions || found === wanted ? how
         : `${how} ${found} of ${wanted} questions were found.`;

@@ -3,11 +3,11 @@
 import assert from "node:assert/strict";
 import { test } from "node:test";
 import {
-    answered, askedOn, BOXES, DAILY, dayOf, dueOn, EMPTY, isKnown, MOST_CARDS, MOST_DAYS, MOST_LETTERS, ratingOf,
-        readMemory, Store, streak, todays, todaysEstimates, VERSION, weakest, written,
+    answered, askedOn, BOXES, DAILY, dayOf, dueOn, EMPTY, isDoneOn, isKnown, MOST_CARDS, MOST_DAYS, MOST_LETTERS,
+    ratingOf, readMemory, Store, streak, todays, todaysEstimates, VERSION, weakest, written,
 } from "../../web/memory.js";
 import { drawQuestions, drillOf, mostOf, readDue, TEN, writeDue } from "../../web/questions.js";
-import { themeOf, THEMES } from "../../web/themes.js";
+import { positions, themeOf, THEMES } from "../../web/themes.js";
 import { readLink, writeLink } from "../../web/link.js";
 import { ROLLS } from "../../web/rolls.js";
 import { drawFrom } from "./stand_in.mjs";
@@ -36,7 +36,7 @@ test("a miss comes back after 1, 3, 7, 21 and 60 days, and is learnt then", () =
     assert.deepEqual([memory.cards.length, memory.learnt], [0, 1]);
 });
 
-test("right before it is due changes nothing of it, and a miss takes it to the first box", () => {
+test("right before it is due changes nothing of it, and a miss takes it one box back, for tomorrow", () => {
     const boxOf = ({ cards: [{ box, due, lost }] }) => [box, due, lost];
     let memory = answered(answered(EMPTY, missed(0), 100), right(0), 101);
     assert.deepEqual(boxOf(memory), [1, 104, 56]);
@@ -44,6 +44,9 @@ test("right before it is due changes nothing of it, and a miss takes it to the f
     assert.deepEqual(boxOf(memory), [1, 104, 56]);
     memory = answered(memory, missed(0, 7), 103);
     assert.deepEqual([boxOf(memory), memory.cards.length, memory.learnt], [[0, 104, 7], 1, 0]);
+    memory = answered({ ...memory, cards: [{ ...memory.cards[0], box: 4, due: 200 }] }, missed(0, 8), 300);
+    assert.deepEqual(boxOf(memory), [3, 301, 8]);
+    assert.deepEqual(boxOf(answered(memory, right(0), 301)), [4, 361, 8]);
 });
 
 test("what comes back counts for the theme of its own, and an estimate for what was estimated", () => {
@@ -146,7 +149,7 @@ test("an answer to a question like it counts for the one that comes back", () =>
     assert.deepEqual(rightly.themes, [["low", 4, 1, 56]]);
     // what was missed is what comes back
     const wrongly = answered(memory, { ...like, lost: 30, isMissed: true }, 107);
-    assert.deepEqual(wrongly.cards, [{ points: like.points, roll: [6, 5], theme: "low", box: 0, due: 108, lost: 30 }]);
+    assert.deepEqual(wrongly.cards, [{ points: like.points, roll: [6, 5], theme: "low", box: 1, due: 108, lost: 30 }]);
     // once, where it came back already
     const twice = answered(answered(memory, { ...missed(7), points: like.points, roll: [6, 5] }, 106),
         { ...like, lost: 30, isMissed: true }, 107);
@@ -182,8 +185,9 @@ test("estimates that were far off come back, ten at a time, and none among today
 });
 
 test("days in a row, up to today or yesterday", () => {
-    const memory = { ...EMPTY, days: [[5, 10, 0, 0], [7, 12, 1, 1], [8, 10, 0, 0], [9, 9, 0, 0]] };
+    const memory = { ...EMPTY, days: [[5, 10, 0, 1], [7, 12, 1, 2], [8, 10, 0, 1], [9, 30, 0, 0]] };
     assert.deepEqual([9, 8, 10, 5, 6, 7].map((day) => streak(memory, day)), [2, 2, 0, 1, 1, 1]);
+    assert.deepEqual([8, 9, 10].map((day) => isDoneOn(memory, day)), [true, false, false]);
     assert.equal(streak(EMPTY, 1), 0);
     const month = Array.from({ length: 31 }, (_, place) => [20000 + place, 10, 0, 1]);
     assert.equal(streak({ ...EMPTY, days: month }, 20030), 31);
@@ -195,17 +199,51 @@ test("a day begins at local midnight", () => {
     assert.equal(dayOf({ getTime: () => 86400000 - 1, getTimezoneOffset: () => -60 }), 1);
 });
 
-test("today's ten: at most six that come back, the longest due first, and then the dearest", () => {
-    let memory = EMPTY;
-    for (let number = 0; number < 8; number += 1) memory = answered(memory, missed(number, number + 1),
+test("today's ten: at most ten that come back, the least known first, then the last missed, then the dearest", () => {
+    let memory = answered(answered(EMPTY, missed(20), 1), right(20), 2);
+    for (let number = 0; number < 12; number += 1) memory = answered(memory, missed(number, number + 1),
         number < 4 ? 10 : 9);
     const { due, seed, ask, level } = todays(memory, 12);
     assert.deepEqual([seed, ask, level], [12, "play", "mixed"]);
-    assert.deepEqual(due, [7, 6, 5, 4, 3, 2].map((number) => ({ points: question(number).points, roll: [3, 1] })));
+    const asked = (number) => ({ points: question(number).points, roll: [3, 1] });
+    assert.deepEqual(due, [3, 2, 1, 0, 11, 10, 9, 8, 7, 6].map(asked));
+    const few = { ...memory, cards: memory.cards.filter(({ lost }) => lost > 50 || lost < 3) };
+    assert.deepEqual(todays(few, 12).due, [1, 0, 20].map(asked));
     assert.deepEqual([todays(EMPTY, 12).due, todays(EMPTY, 12).seed], [[], 12]);
     // what follows on that day has another seed
     assert.notEqual(todays(answered(EMPTY, right(0), 12), 12).seed, 12);
     assert.equal(todays(answered(EMPTY, right(0), 11), 12).seed, 12);
+});
+
+test("what is missed comes back tomorrow, and no more waits than a student can answer", () => {
+    const all = positions(44);
+    // of new questions and of those that come back how many in a hundred are right
+    for (const [fresh, again] of [[40, 60], [55, 75], [85, 95]]) {
+        let [memory, seed, back, most] = [EMPTY, 99, 0, 0];
+        const below = (count) => {
+            seed = (48271 * seed) % 2147483647;
+            return Math.floor((seed / 2147483647) * count);
+        };
+        const last = new Map(); // the day on which each was missed last
+        for (let day = 20000; day < 20300; day += 1) {
+            const { due, theme } = todays(memory, day);
+            const keys = new Set(due.map(({ points, roll }) => `${points} ${roll}`));
+            const missedThen = [...last].filter(([, then]) => then === day - 1).map(([key]) => key);
+            back += missedThen.filter((key) => keys.has(key)).length - 0.95 * missedThen.length;
+            most = Math.max(most, dueOn(memory, day, "play").length);
+            const asked = Array.from({ length: TEN }, (_, place) =>
+                due[place] ?? { points: all[1 + below(all.length - 1)], roll: ROLLS[below(21)] });
+            asked.forEach(({ points, roll }, place) => {
+                const isMissed = below(100) >= (place < due.length ? again : fresh);
+                if (isMissed) last.set(`${points} ${roll}`, day);
+                memory = answered(memory, { points, roll, theme, lost: isMissed ? 50 : 0, natural: 30, isMissed,
+                    isLast: place === TEN - 1 }, day);
+            });
+        }
+        assert.ok(back >= 0, `of ${fresh} and ${again} in a hundred fewer than 95 % came back the next day`);
+        assert.ok(most <= 25, `of ${fresh} and ${again} in a hundred ${most} were due on a day`);
+        assert.equal(streak(memory, 20299), 300);
+    }
 });
 
 test("the theme that loses most for each answer, once each is known", () => {

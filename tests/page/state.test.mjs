@@ -2375,10 +2375,44 @@ async function student() {
     await used.clicked("all that is kept");
     equal("it is open", used.find("all that is kept").getAttribute("aria-expanded"), "true");
     equal("sizes", used.at("today")
-            .textContent.includes(`1 drill was ended. Misses by what they lost, in rolls: 0 less than 0.020, ${missed.length} 0.020 or more, 0 0.080 or more.`), true);
+            .textContent.includes(`Today\u2019s ten were done once. Misses by what they lost, in rolls: 0 less than 0.020, ${missed.length} 0.020 or more, 0 0.080 or more.`), true);
     await used.clicked("today");
     equal("ten more are others", [used.session.state.drill.seed === day, used.session.state.questions.length],
         [false, 10]);
+
+    part = "other drills don't count for the ten";
+    let drilled = await Used.open("#drill=all&seed=5&ask=play");
+    await play(drilled, () => false);
+    equal("twenty that are right", kept(drilled).split("\n").at(-1), `day ${day} 20 0 0`);
+    await drilled.clicked("end training");
+    equal("what is asked then", [told(drilled).includes("are done"), drilled.find("today").className], [false, "begin first"]);
+    drilled = await Used.open("#drill=all&seed=5&ask=effective&ten=");
+    for (let asked = 0; asked < 10; asked += 1) {
+        drilled.find("estimate").value = "1";
+        await drilled.clicked("tell");
+        await drilled.clicked("next question");
+    }
+    equal("ten estimates", kept(drilled).split("\n").find((line) => line.startsWith("day")), `day ${day} 10 10 0`);
+
+    part = "ten that come back";
+    const twelve = Array.from({ length: 12 }, (_, count) => `card ${1 + count},1,0,0,0,0 31 all 0 ${day} ${50 + count}`);
+    drilled = await Used.open("", later({ window: { kept: new Map([["bearoff memory", ["bearoff memory 3",
+        `day ${day - 1} 20 12 2`, ...twelve].join("\n")]]) } }, 0));
+    equal("none is new", [told(drilled), drilled.find("today").textContent],
+        ["Ten that you missed come back. New ones follow these.", "Begin 10 again"]);
+    await drilled.clicked("today");
+    equal("the dearest first", [drilled.board, drilled.session.state.drill.due.length], [[12, 1, 0, 0, 0, 0], 10]);
+    equal("what is said of them", drilled.text("coach").includes("10 again."), true);
+    await play(drilled, () => true);
+    for (const { roll } of missedOf(drilled.session.state)) {
+        await drilled.clicked(best(roll));
+        await drilled.clicked("next question");
+    }
+    equal("those that wait", drilled.text("coach").includes("10 of 12 questions come back tomorrow, what you missed last first."),
+        true);
+    await drilled.clicked("end training");
+    equal("the others follow at once", [told(drilled).startsWith("Today\u2019s ten are done. 10 of 12"),
+        drilled.find("today").textContent], [true, "Ten more 2 again, 8 new"]);
 
     part = "a rating";
     // the play that loses leaves the fewest checkers, so it is the natural one
@@ -2558,7 +2592,7 @@ async function comeBack() {
         await used.clicked(isRight ? `play ${high}/off ${low}/0` : `play ${high}/1 ${low}/2`);
         equal("what comes back then", cards(used),
             [isRight ? `card 4,1,0,0,0,0 31 low 3 ${day + 21} 56`
-            : `card ${points} ${high}${low} low 0 ${day + 1} 56`]);
+            : `card ${points} ${high}${low} low 1 ${day + 1} 56`]);
     }
     part = "estimates that come back";
     let used = await open(`card 1,2,0,0,0,0 - pips 1 ${day - 1} 2000`, `card 1,0,0,0,0,0 31 all 0 ${day + 1} 56`,
