@@ -9,12 +9,6 @@ export function roundedOf(number) {
     return { exact: exactText(number), thousandths, text: decimal(thousandths) };
 }
 
-// A number of thousandths that may be negative: its size, and a text with its sign.
-export function signedOf({ thousandths }) {
-    const size = BigInt(Math.abs(thousandths));
-    return { thousandths: size, text: (thousandths < 0 ? "\u2212" : "") + decimal(size) };
-}
-
 // For each number of rolls that can be the last: the chance of exactly so many, and within so many.
 export function chancesOf(database, points) {
     return database.distribution(points).flatMap((share, rolls) => {
@@ -32,13 +26,21 @@ export const choicesOf = (database, points, roll) => database.moves(points, roll
     isBest: choice.loss.numerator === 0n,
 }));
 
-// The same with the play that leads there.
+// Moves as pairs of points, and as players write them.
+function playOf({ moves, to }) {
+    const pairs = moves.map((move) => [move.from, move.to]);
+    return { to, moves: pairs, text: notation(pairs) };
+}
+
+// The recorded play of a roll.
+export const playFrom = (database, points, roll) => playOf(database.play(points, roll));
+
+// Each choice with the play that leads there.
 export function playsOf(database, points, roll) {
     const recorded = database.play(points, roll).to.join();
     return choicesOf(database, points, roll).map(({ to, lost, loss, isBest }) => {
-        const moves = database.playTo(points, roll, to).moves.map((move) => [move.from, move.to]);
         return {
-            to, moves, text: notation(moves), loss, lossText: decimal(loss), exact: exactText(lost),
+            ...playOf(database.playTo(points, roll, to)), loss, lossText: decimal(loss), exact: exactText(lost),
             isBest, isRecorded: to.join() === recorded,
         };
     });

@@ -272,14 +272,22 @@ export function lookedAt(points, moves, name = "small-tip") {
         tallies(points));
 }
 
-// Two plays of a position beside each other, each on a board of its own: the one that was chosen
-// with what it loses, and the best.
-export const compared = (points, chosen, best) => h("div", { class: "board compared" },
-    [["Yours", chosen, chosen.lossText], ["Best", best, null]].map(([whose, play, loss]) =>
-        h("figure", { class: loss ? "lost" : "good", "data-play": play.text },
-            h("figcaption", {}, h("b", {}, whose), ` ${play.text} `,
-                loss && h("span", { class: "cost" }, `\u2212${loss}`)),
-            lookedAt(points, play.moves, `${whose.toLowerCase()}-tip`))));
+// Two plays beside each other, each on a board of its own: yours, and the best.
+const besides = (plays, what) => h("div", { class: "board compared" },
+    plays.map(({ points, text, moves, lossText = null }, place) => {
+        const whose = ["Yours", "Best"][place];
+        return h("figure", { class: ["lost", "good"][place], "data-play": text },
+            h("figcaption", {}, h("b", {}, whose), ` ${text} `,
+                lossText && h("span", { class: "cost" }, `\u2212${lossText}`)),
+            lookedAt(points, moves, `${whose.toLowerCase()}-${what}`));
+    }));
+
+// Two plays of a position: the one that was chosen with what it loses, and the best.
+export const compared = (points, chosen, { text, moves }) =>
+    besides([{ ...chosen, points }, { text, moves, points }], "tip");
+
+// The best plays of a throw that follows them.
+export const replied = (replies) => besides(replies, "reply-tip");
 
 // A small picture of a position for a table.
 export function miniature(points) {

@@ -1,6 +1,6 @@
 // What is shown of a position beside the board: numbers, chances, rolls and plays.
 import { h } from "./tree.js";
-import { lookedAt, miniature } from "./board.js";
+import { lookedAt, miniature, replied } from "./board.js";
 import { GREATEST } from "./points.js";
 import { decimalOf, inSentence, isShort } from "./fractions.js";
 import { ROLLS, sameRoll } from "./rolls.js";
@@ -212,10 +212,19 @@ export function verdict({ isMiss, first, all, exact }, act) {
             "Count anew"));
 }
 
-// Why the play that was guessed loses, beside the best one.
-export const reasons = (says) => says.length > 0 && [
-    h("h3", {}, "Yours and the best"),
-    h("ul", {}, says.map((sentence) => h("li", {}, sentence))),
+// What the play that was guessed leaves beside the best one, and where most of it is lost.
+export const reasons = (why) => why !== null && [
+    why.rows.length > 0 && h("table", { class: "signs" },
+        h("caption", { class: "heard" }, "What yours and the best leave"),
+        h("thead", {}, h("tr", {}, h("td", {}),
+            ["Yours", "Best"].map((whose) => h("th", { scope: "col" }, whose)))),
+        h("tbody", {}, why.rows.map(({ name, made, best }) => h("tr", {},
+            h("th", { scope: "row" }, name), h("td", {}, made), h("td", {}, best))))),
+    why.throws && [
+        h("p", {}, `Of the 36 next throws yours is worse after ${why.throws.worse}, better after ${
+            why.throws.better || "none"}. Most is lost where ${why.throws.roll.join("-")} follows:`),
+        replied(why.throws.replies),
+    ],
 ];
 
 const TOLD = [["mean", "Mean"], ["effective", "EPC"], ["wastage", "Wastage"]];

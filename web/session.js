@@ -19,7 +19,7 @@ function whyNot(failure) {
 function noReply({ kind }, { bound }, refusal) {
     return {
         ask: { refusal, status: 0, standing: null, bound }, rolls: [], draw: [],
-        again: { plays: [], answers: [] }, why: [], measure: { count: 0, rows: [] }, fill: [],
+        again: { plays: [], answers: [] }, why: null, measure: { count: 0, rows: [] }, fill: [],
     }[kind];
 }
 

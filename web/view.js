@@ -120,7 +120,7 @@ export function view(state, act) {
             chances: !hasChances,
             rolls: !hasRolls,
             keeping: state.kept.length === 0,
-            reasons: reasonsFor(state).length === 0,
+            reasons: reasonsFor(state) === null,
             worth: !showsRules(state),
             why: !typed,
         },

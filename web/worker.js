@@ -1,7 +1,7 @@
 // What the worker does: it builds, checks and answers, so that the page never stands still.
 import { Database } from "../js/database.js";
 import { BearoffError } from "../js/errors.js";
-import { chancesOf, choicesOf, playsOf, roundedOf, signedOf } from "./answers.js";
+import { chancesOf, choicesOf, playsOf, roundedOf } from "./answers.js";
 import { ROLLS } from "./rolls.js";
 import { measured } from "./rules.js";
 import { REFUSALS } from "./texts.js";
@@ -21,7 +21,7 @@ export function answer(database, points) {
             bound,
             mean: roundedOf(database.mean(points)),
             effective: roundedOf(database.epc(points)),
-            wastage: signedOf(database.wastage(points)),
+            wastage: roundedOf(database.wastage(points)),
             distribution: chancesOf(database, points),
         };
     } catch (error) {

@@ -1630,7 +1630,7 @@ const PICTURED = [
         `document.querySelector("#board .source").dispatchEvent(new MouseEvent("click", { bubbles: true }))`,
         "#board .target"],
     ["drill", "#drill=all&seed=31&ask=play&level=hard", "#board .source",
-        `document.querySelector(".plays button:last-child").click()`, "#reasons li"],
+        `document.querySelector(".plays button:last-child").click()`, "#reasons figure"],
     ["estimate", "#drill=all&seed=31&ask=effective", ".estimate input",
         `document.querySelector(".estimate input").value = "40"; document.querySelector('[data-key="tell"]').click()`,
         "#numbers .verdict"],

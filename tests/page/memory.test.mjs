@@ -196,7 +196,9 @@ test("days in a row, up to today or yesterday", () => {
 test("a day begins at local midnight", () => {
     assert.equal(dayOf(new Date(2026, 10, 27, 23, 59)) + 1, dayOf(new Date(2026, 10, 28, 0, 1)));
     assert.equal(dayOf(new Date(2026, 10, 27, 0, 0)), dayOf(new Date(2026, 10, 27, 23, 59)));
-    assert.equal(dayOf({ getTime: () => 86400000 - 1, getTimezoneOffset: () => -60 }), 1);
+    assert.equal(dayOf({ getTime: () => 5 * 86400000 - 1, getTimezoneOffset: () => -60 }), 5);
+    assert.deepEqual([-8.64e15, -1, 0, 8.64e15].map((time) =>
+        dayOf({ getTime: () => time, getTimezoneOffset: () => 300 })), [1, 1, 1, 900000]);
 });
 
 test("today's ten: at most ten that come back, the least known first, then the last missed, then the dearest", () => {

@@ -6,7 +6,7 @@ import { mkdtempSync, readFileSync, rmSync, writeFileSync } from "node:fs";
 import { tmpdir } from "node:os";
 import { join } from "node:path";
 import { gunzipSync, gzipSync } from "node:zlib";
-import { playsOf, signedOf } from "../../web/answers.js";
+import { playsOf } from "../../web/answers.js";
 import { decimalOf } from "../../web/fractions.js";
 import { readPoints, sumOf } from "../../web/points.js";
 import { ROLLS } from "../../web/rolls.js";
@@ -349,8 +349,6 @@ function compareRounded() {
             `${7n ** 43n}/${36n ** 22n}`, `${7n ** 65n}/${6n * 36n ** 33n}`, "180/1", "181/1"]) {
         equal(`${fraction} in decimals`, decimalOf(fraction), decimal(nearest(...over(fraction))));
     }
-    equal("a negative number", signedOf({ thousandths: -5 }).text, "\u22120.005");
-    equal("and a positive one", signedOf({ thousandths: 4208 }).text, "4.208");
 }
 
 // The messages of a page, and what is answered to them.

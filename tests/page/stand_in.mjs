@@ -269,8 +269,11 @@ export function legalFrom(points) {
     });
 }
 
-// Sentences about a play that loses.
-export const whyFrom = (points, roll, to) => [`Why ${points} with ${roll} to ${to}.`, "And so on."];
+// What a play that loses leaves, beside the best one; and a throw after which nothing moves.
+export const whyFrom = (points, roll, to) => ({
+    rows: [{ name: `Of ${points} with ${roll}`, made: to.join(), best: "best" }],
+    throws: { worse: 23, better: 0, roll: [6, 5], replies: [to, points].map((at) => ({ points: at, text: "none", moves: [] })) },
+});
 
 // The values of a lesson's step.
 function valuesFrom({ points, roll }, bound) {

@@ -5,6 +5,7 @@ import { readFileSync } from "node:fs";
 import { start } from "../../web/app.js";
 import { inSentence, isShort, sumOfFractions } from "../../web/fractions.js";
 import { readCounts, readLink, readTyped, START, writeLink } from "../../web/link.js";
+import { inWords } from "../../web/points.js";
 import { ROLLS } from "../../web/rolls.js";
 import { moved, verdict } from "../../web/panels.js";
 import { asSvg } from "../../web/picture.js";
@@ -2263,7 +2264,13 @@ async function reasons() {
     const used = await Used.open("#drill=gaps&seed=7&ask=play");
     const [one, two] = drawFrom({ theme: "gaps", seed: 7, ask: "play" });
     const says = () => (used.at("reasons").hidden ? null
-        : [...used.at("reasons").querySelectorAll("li")].map((node) => node.textContent));
+        : [...used.at("reasons").querySelectorAll("tbody tr")].map((row) => [...row.children].map((cell) =>
+            cell.textContent)).concat([[...used.at("reasons").querySelectorAll("figure")].map((figure) =>
+            figure.querySelector("svg").getAttribute("aria-label"))]));
+    const told = (...words) => {
+        const { rows, throws: { replies } } = whyFrom(...words);
+        return [...rows.map(Object.values), replies.map(({ points }) => `The board: ${inWords(points)}`)];
+    };
     const losing = ({ roll: [high, low] }) => `play ${high}/1 ${low}/2`;
     equal("before a play", says(), null);
     used.click(losing(one));
@@ -2273,15 +2280,18 @@ async function reasons() {
         [["why"], null, "Next", "next question"]);
     await used.worker.answerAll(44);
     const { to } = used.session.state.guesses[0].play;
-    equal("once it is known", [says(), used.focus()], [whyFrom(one.points, one.roll, to), "next question"]);
-    equal("in the words of both", used.at("reasons").querySelector("h3").textContent, "Yours and the best");
+    equal("once it is known", [says(), used.focus()], [told(one.points, one.roll, to), "next question"]);
+    equal("who is told of", [...used.at("reasons").querySelectorAll("thead th, figcaption b")].map((node) => node.textContent),
+        ["Yours", "Best", "Yours", "Best"]);
+    equal("the throw", used.at("reasons").querySelector("p").textContent,
+        "Of the 36 next throws yours is worse after 23, better after none. Most is lost where 6-5 follows:");
     await used.clicked("next question");
     equal("not beside the next question", says(), null);
     const [high, low] = two.roll;
     await used.clicked(`play ${high}/off ${low}/0`);
     equal("nothing of the best play", [says(), used.worker.asked.length], [null, 0]);
     await used.clicked("previous question");
-    equal("the former question has its own again", says(), whyFrom(one.points, one.roll, to));
+    equal("the former question has its own again", says(), told(one.points, one.roll, to));
     used.window.type(used.find("look around").getAttribute("href"));
     await used.worker.answerAll(44);
     equal("nothing where one looks around", says(), null);
@@ -2291,12 +2301,12 @@ async function reasons() {
     const three = used.session.state.questions[2];
     used.click(losing(three));
     await settled();
-    equal("not what is said of another play", [says(), used.session.state.why.says.length > 0], [null, true]);
+    equal("not what is said of another play", [says(), used.session.state.why.says !== null], [null, true]);
     used.click("next question");
     await used.worker.answerAll(44);
     equal("what comes too late is shown nowhere", says(), null);
     await used.clicked("previous question");
-    equal("and there it is", says(), whyFrom(three.points, three.roll, used.session.state.guesses.at(-1).play.to));
+    equal("and there it is", says(), told(three.points, three.roll, used.session.state.guesses.at(-1).play.to));
 
     const miss = { at: "2,2,2,2,2,2", roll: [3, 1], play: { text: "3/1" } };
     const others = [{ at: "2,2,2,2,2,1" }, { roll: [3, 2] }, { play: { text: "3/off" } }];

@@ -1,164 +1,164 @@
-// Reads back each sentence that the page says of a play that loses, by its words, over questions of
-// drills, and compares it with counts and numbers that are worked out here: the plays of each throw
-// by a search of its own, the means and chances by the program's replies to its lines.
+// What the page tells of a play that loses, over plays of questions of each theme of at most 44 pips,
+// beside a table of this file's own: plays by a search of its own, and from these means and chances
+// as doubles, all from nothing. Nothing of it is the page's, the module's or the program's.
 import { readFileSync } from "node:fs";
 import { join } from "node:path";
 import { Database } from "../../js/database.js";
 import { choicesOf } from "../../web/answers.js";
-import { ROLLS } from "../../web/rolls.js";
 import { drawQuestions } from "../../web/questions.js";
-import { THEMES } from "../../web/themes.js";
+import { ROLLS } from "../../web/rolls.js";
+import { positions, THEMES } from "../../web/themes.js";
 import { reasonsOf } from "../../web/why.js";
-import { equal, modulesFolder, part, wrong } from "./given.mjs";
+import { effectOf, equal, modulesFolder, part, wrong } from "./given.mjs";
 
 const QUESTIONS = 2000;
-const module = await WebAssembly.compile(readFileSync(join(modulesFolder(), "narrow.wasm")));
-const database = await Database.build(90, module);
+const MOST_PIPS = 44;
+const LONGEST = 23; // one more than the most rolls
+const SAME = 1e-11; // what two means that are the same can be apart as doubles
 
-const sum = (points) => points.reduce((all, count) => all + count, 0);
-const pips = (points) => points.reduce((all, count, place) => all + count * (place + 1), 0);
+// A position as a number: four bits for each point, the ace point lowest.
+const codeOf = (points) => points.reduceRight((code, count) => 16 * code + count, 0);
+const countOn = (code, point) => (code >> (4 * (point - 1))) & 15;
+const POINTS = [1, 2, 3, 4, 5, 6];
+const checkers = (code) => POINTS.reduce((all, point) => all + countOn(code, point), 0);
+const pips = (code) => POINTS.reduce((all, point) => all + point * countOn(code, point), 0);
+
+// Adds to a list where one die leads from some positions, each once.
+function step(codes, die, found = []) {
+    for (const code of codes) {
+        for (let point = 6, isHighest = true; point > 0; point -= 1) {
+            if (countOn(code, point) === 0) continue;
+            const to = code - (1 << (4 * point - 4)) + (point > die ? 1 << (4 * (point - die) - 4) : 0);
+            if ((point >= die || isHighest) && !found.includes(to)) found.push(to);
+            isHighest = false;
+        }
+        if (code === 0 && !found.includes(0)) found.push(0);
+    }
+    return found;
+}
+
+// Where a throw leads: in both orders, or four times.
+const ends = (code, [one, other]) => (one === other ? [one, one, one, one].reduce((codes, die) => step(codes, die), [code])
+    : step(step([code], other), one, step(step([code], one), other)));
+
+// Of each position by its number the mean, the chance to be off within so many rolls, and where each
+// throw leads: to the least mean, and of such ones to fewer pips, or to the first in a dictionary.
+const DICE = POINTS.flatMap((one) => POINTS.filter((other) => other <= one).map((other) => [one, other]));
 const weight = ([one, other]) => (one === other ? 1 : 2);
-const number = (word) => (word === "none" ? 0 : Number(word));
-
-// What was asked of the module's lines, which are the program's, so that nothing that the page reads
-// is taken for right.
-const replies = new Map();
-const replyTo = (line) => {
-    if (!replies.has(line)) replies.set(line, database.answer(line));
-    return replies.get(line);
-};
-const valueOf = (fraction) => {
-    const [above, below] = fraction.split("/").map(BigInt);
-    return Number((above * 10n ** 15n) / below) / 1e15;
-};
-const meanOf = (points) => valueOf(replyTo(`mean ${points}`).split(" ")[1]);
-const wastageOf = (points) => (meanOf(points) * 49) / 6 - pips(points);
-
-// Where one die leads, with a search of its own; and a throw, in both orders, or four times.
-function steps(points, die) {
-    if (sum(points) === 0) return [points];
-    const highest = Math.max(...points.map((count, place) => (count > 0 ? place + 1 : 0)));
-    return points.flatMap((count, place) => {
-        const point = place + 1;
-        if (count === 0 || (point < die && point !== highest)) return [];
-        const after = points.map((other, at) => other - (at === place) + (at === place - die));
-        return [after];
+const table = new Map([[0, { mean: 0, within: Array(LONGEST).fill(1), plays: [] }]]);
+const order = positions(MOST_PIPS).map(codeOf).sort((one, other) => pips(one) - pips(other)
+    || POINTS.reduce((found, point) => found || countOn(one, point) - countOn(other, point), 0));
+const rankOf = new Map(order.map((code, rank) => [code, rank]));
+for (const code of order.slice(1)) {
+    const plays = DICE.map((roll) => {
+        const all = ends(code, roll);
+        const least = Math.min(...all.map((to) => table.get(to).mean));
+        return all.filter((to) => table.get(to).mean <= least + SAME)
+            .reduce((one, other) => (rankOf.get(other) < rankOf.get(one) ? other : one));
+    });
+    const over = (numberOf) => plays.reduce((sum, to, place) => sum + weight(DICE[place]) * numberOf(table.get(to)), 0) / 36;
+    table.set(code, {
+        plays, mean: 1 + over(({ mean }) => mean),
+        within: Array.from({ length: LONGEST }, (_, rolls) => (rolls === 0 ? 0 : over(({ within }) => within[rolls - 1]))),
     });
 }
+const playOf = (code, roll) => (code === 0 ? 0
+    : table.get(code).plays[DICE.findIndex((dice) => dice.join() === [...roll].sort((a, b) => b - a).join())]);
+const throwsOf = (is) => DICE.filter(is).reduce((all, roll) => all + weight(roll), 0);
 
-const ends = (points, [one, other]) => {
-    const orders = one === other ? [[one, one, one, one]] : [[one, other], [other, one]];
-    const found = orders.flatMap((dice) => dice.reduce((all, die) => {
-        const next = new Map(all.flatMap((at) => steps(at, die)).map((at) => [at.join(), at]));
-        return [...next.values()];
-    }, [points]));
-    return [...new Map(found.map((at) => [at.join(), at])).values()];
+const gaps = (code) => POINTS.filter((point) => point > 1 && countOn(code, point) === 0 && code >= 16 ** point).reverse();
+const wastage = (code) => (49 * table.get(code).mean) / 6 - pips(code);
+const near = (told, is, most) => Math.abs(Number(told) - is) < most;
+const isPercent = (text, is) => text.endsWith(" %") && near(text.slice(0, -2), 100 * is, 0.0501);
+
+// Each row by its name: whether its text is so of a position, and whether it has to stand there.
+const ROWS = {
+    "Checkers left": [(text, code) => text === String(checkers(code)), (made, best) => checkers(made) !== checkers(best)],
+    "Pips left": [(text, code) => text === String(pips(code)), (made, best) => pips(made) !== pips(best)],
+    "Wastage in pips": [(text, code) => near(text, wastage(code), 0.00051), (made, best) => pips(made) !== pips(best)],
+    "Empty points": [(text, code) => text === (gaps(code).join(", ") || "none"),
+        (made, best) => gaps(made).join() !== gaps(best).join()],
+    "On the ace point": [(text, code) => text === String(countOn(code, 1)),
+        (made, best) => countOn(made, 1) !== countOn(best, 1)],
+    "Tallest stack": [(text, code) => text === String(Math.max(...POINTS.map((point) => countOn(code, point)))),
+        (made, best) => Math.max(...POINTS.map((point) => countOn(made, point)))
+            !== Math.max(...POINTS.map((point) => countOn(best, point)))],
+    "Throws that bear off two": [(text, code) => text === `${pairs(code)} of 36`, (made, best) => pairs(made) !== pairs(best)],
 };
+const pairs = (code) => throwsOf((roll) => ends(code, roll).some((to) => checkers(code) - checkers(to) >= 2));
 
-const counted = (points, is) =>
-    ROLLS.filter((roll) => is(roll)).reduce((all, roll) => all + weight(roll), 0);
-const pairsOf = (points) => counted(points, (roll) =>
-    ends(points, roll).some((to) => sum(points) - sum(to) >= 2));
-const best = new Map();
-const afterOf = (points, roll) => {
-    const key = `${points} ${roll}`;
-    if (!best.has(key)) {
-        best.set(key, sum(points) === 0 ? 0 : Math.min(...ends(points, roll).map(meanOf)));
+// What is wrong in what is told of two positions: in words, or "".
+function faultIn({ rows, throws }, made, best) {
+    const told = new Map(rows.map((row) => [row.name, row]));
+    if (told.size !== rows.length) return "a row stands twice";
+    const more = (rolls) => table.get(best).within[rolls] - table.get(made).within[rolls];
+    const telling = Math.max(...table.get(best).within.map((_, rolls) => more(rolls)));
+    const names = Object.keys(ROWS).filter((name) => (best !== 0 || name === "Checkers left") && ROWS[name][1](made, best));
+    for (const name of names) {
+        const row = told.get(name);
+        if (!row) return `no row ${name}`;
+        if (!ROWS[name][0](row.made, made) || !ROWS[name][0](row.best, best)) return JSON.stringify(row);
+        told.delete(name);
     }
-    return best.get(key);
-};
-
-function withinOf(points, rolls) {
-    const shares = replyTo(`dist ${points}`).split(" ").slice(1).map((word) => word.split(":"));
-    return shares.filter(([count]) => Number(count) <= rolls)
-        .reduce((all, [, share]) => all + 100 * valueOf(share), 0);
+    const [[name, row] = [""], ...others] = told;
+    const [, rolls] = /^Off within (\d+) rolls?$/.exec(name) || [];
+    if (others.length > 0 || (name && rolls === undefined)) return `the row ${name} ${others}`;
+    if (rolls === undefined ? telling > 0.0061 : telling < 0.0039 || more(Number(rolls)) < telling - 0.0011) {
+        return `${name} ${more(Number(rolls))} of ${telling}`;
+    }
+    if (row && !(isPercent(row.made, table.get(made).within[rolls]) && isPercent(row.best, table.get(best).within[rolls]))) {
+        return JSON.stringify(row);
+    }
+    if (best === 0 || throws === null) return (best === 0) === (throws === null) ? "" : `throws ${throws}`;
+    const lost = (roll) => table.get(playOf(made, roll)).mean - table.get(playOf(best, roll)).mean;
+    const costs = DICE.map((roll) => weight(roll) * lost(roll));
+    if (throws.worse !== throwsOf((roll) => lost(roll) > SAME)) return `worse after ${throws.worse}`;
+    if (throws.better !== throwsOf((roll) => lost(roll) < -SAME)) return `better after ${throws.better}`;
+    if (weight(throws.roll) * lost(throws.roll) < Math.max(...costs) - SAME) return `the throw ${throws.roll}`;
+    for (const [place, code] of [made, best].entries()) {
+        const { points, text, moves } = throws.replies[place];
+        const to = playOf(code, throws.roll);
+        const effect = POINTS.flatMap((point) => {
+            const count = countOn(to, point) - countOn(code, point);
+            return count === 0 ? [] : [`${point}:${count}`];
+        });
+        const off = checkers(code) - checkers(to);
+        if (codeOf(points) !== code) return `a reply from ${points}`;
+        if (effectOf(text) !== [...effect, ...(off > 0 ? [`off:${off}`] : [])].sort().join(" ")) return `the reply ${text}`;
+        if (moves.reduce((at, [from, on]) => at - 16 ** (from - 1) + (on > 0 ? 16 ** (on - 1) : 0), code) !== to) {
+            return `the moves ${moves}`;
+        }
+    }
+    return "";
 }
 
-const near = (one, other, most) => Math.abs(one - Number(other)) < most;
-const HALF = 0.00051; // of the last digit that is told
-
-// Each form of a sentence, and whether it is so of what was made and what is best: `found` are the
-// words that stand in it.
-const FORMS = [
-    ["even", /^Both move as many pips; your shape wastes ([\d.]+) pips more\.$/, (made, top, [wasted]) =>
-        pips(made) === pips(top) && near(wastageOf(made) - wastageOf(top), wasted, HALF)],
-    ["more", /^Yours moves (\d+) pips? more, but its shape wastes ([\d.]+) more\.$/, (made, top, [more, wasted]) =>
-        pips(top) - pips(made) === Number(more) && near(wastageOf(made) - wastageOf(top), wasted, HALF)],
-    ["fewer", /^Yours moves (\d+) pips? fewer, and its shape wastes ([\d.]+) more\.$/, (made, top, [fewer, wasted]) =>
-        pips(made) - pips(top) === Number(fewer) && near(wastageOf(made) - wastageOf(top), wasted, HALF)],
-    ["saved", /^Yours moves (\d+) pips? fewer; its shape saves ([\d.]+) of that\.$/, (made, top, [fewer, saved]) =>
-        pips(made) - pips(top) === Number(fewer) && near(wastageOf(top) - wastageOf(made), saved, HALF)],
-    ["same rolls",
-        /^Yours bears off (\d+) more, but (\d+) and (\d+) checkers both take (\d+) rolls? without a double\.$/,
-        (made, top, [more, left, other, rolls]) => sum(top) - sum(made) === Number(more) && sum(made) === Number(left)
-            && sum(top) === Number(other) && [made,
-                top].every((at) => Math.floor((sum(at) + 1) / 2) === Number(rolls))],
-    ["fewer off", /^Yours leaves (\d+) checkers?, the best (\w+)\.$/, (made, top, [left, other]) =>
-        sum(made) === Number(left) && sum(top) === number(other) && sum(made) > sum(top)],
-    ["gap", /^Yours leaves the (.*) points? empty; the best has a checker (?:there|on each)\.$/,
-        (made, top, [points]) =>
-        points.match(/\d/g).every((point) =>
-            made[point - 1] === 0 && top[point - 1] > 0 && sum(made.slice(Number(point))) > 0)],
-    ["ace", /^Yours has (\d+) on the ace point, the best (\w+)\.$/, (made, top, [mine, other]) =>
-        made[0] === Number(mine) && top[0] === number(other) && made[0] > top[0]],
-    ["stack", /^The tallest stack has (\d+) in yours, (\d+) in the best\.$/, (made, top, [mine, other]) =>
-        Math.max(...made) === Number(mine) && Math.max(...top) === Number(other) && Number(mine) > Number(other)],
-    ["pairs", /^After yours (\d+) of 36 throws bear off two checkers or more, after the best (\d+)\.$/,
-        (made, top, [mine, other]) =>
-        pairsOf(made) === Number(mine) && pairsOf(top) === Number(other) && Number(mine) < Number(other)],
-    ["within", /^Within (\d+) rolls? yours is off in ([\d.]+) %, the best in ([\d.]+) %\.$/,
-        (made, top, [rolls, mine, other]) =>
-        near(withinOf(made, Number(rolls)), mine, 0.0501) && near(withinOf(top, Number(rolls)), other, 0.0501)
-            && Number(other) > Number(mine)],
-    ["throws", /^Of the 36 next throws yours is worse after (\d+), better after (\w+)\.(?: (.*) \((\d+) of the 36\) makes? at least half of what these (\d+) cost\.)?$/,
-        (made, top, [worse, better, named, weighs, these]) => {
-            const costs = ROLLS.map((roll) => ({ name: roll.join("-"), weight: weight(roll),
-                    lost: afterOf(made, roll) - afterOf(top, roll) }));
-            const all = (is, of) => costs.filter(is).reduce((total, one) => total + of(one), 0);
-            const isNamed = ({ name }) => named.match(/\d-\d/g).includes(name);
-            return all(({ lost }) => lost > 1e-12, (one) => one.weight) === Number(worse)
-                && all(({ lost }) => lost < -1e-12, (one) => one.weight) === number(better)
-                && (named === undefined || (these === worse && all(isNamed, (one) => one.weight) === Number(weighs)
-                    && 2 * all(isNamed, (one) => one.weight * one.lost) >= all(({ lost }) => lost > 0,
-                        (one) => one.weight * one.lost) - 1e-9));
-        }],
-];
-
-part("each sentence of a play that loses", () => {
-    const said = new Map(FORMS.map(([name]) => [name, 0]));
-    let [questions, sentences] = [0, 0];
+part("what is told of a play that loses", async () => {
+    const module = await WebAssembly.compile(readFileSync(join(modulesFolder(), "narrow.wasm")));
+    const database = await Database.build(MOST_PIPS, module);
+    const told = new Map();
+    let questions = 0;
     for (let seed = 1; questions < QUESTIONS; seed += 1) {
-        for (const { name } of THEMES.filter(({ isPlayed }) => isPlayed)) {
+        for (const { name } of THEMES.filter(({ isPlayed, most }) => isPlayed && !most)) {
             const drill = { theme: name, seed, ask: "play", level: "any" };
-            for (const { points, roll } of drawQuestions(drill, ROLLS,
-                    (at, dice) => choicesOf(database, at, dice)).slice(0, 6)) {
-                const losing = choicesOf(database, points, roll).filter(({ loss }) => loss > 0n);
+            for (const { points, roll } of drawQuestions(drill, ROLLS, (at, dice) => choicesOf(database, at, dice))) {
+                const best = playOf(codeOf(points), roll);
+                const losing = ends(codeOf(points), roll)
+                    .filter((to) => table.get(to).mean > table.get(best).mean + 0.0005);
                 if (losing.length === 0) continue;
-                const made = losing[(7 * seed + questions) % losing.length].to;
-                const top = ends(points, roll).reduce((one, other) => (meanOf(other) < meanOf(one) ? other : one));
+                const made = losing[(7 * seed + questions) % losing.length];
                 questions += 1;
-                const reasons = reasonsOf(database, points, roll, made);
-                if (reasons.length < 2) wrong(`${points} ${roll} ${made}: only ${reasons}`);
-                for (const sentence of reasons) {
-                    const form = FORMS.find(([, words]) => words.test(sentence));
-                    if (!form) {
-                        wrong(`of no form: ${sentence}`);
-                        continue;
-                    }
-                    const [kind, words, isSo] = form;
-                    sentences += 1;
-                    said.set(kind, said.get(kind) + 1);
-                    // where others are as good, the one that is recorded is the best
-                    const recorded = database.play(points, roll).to;
-                    if (meanOf(recorded) !== meanOf(top)) wrong(`${points} ${roll}: another is best`);
-                    const found = words.exec(sentence).slice(1);
-                    if (!isSo(made, recorded,
-                            found)) wrong(`${points} with ${roll} to ${made}, best ${recorded}: ${sentence}`);
+                const to = POINTS.map((point) => countOn(made, point));
+                const reasons = reasonsOf(database, points, roll, to);
+                const fault = faultIn(reasons, made, best);
+                if (fault) wrong(`${points} with ${roll} to ${to}: ${fault}`);
+                for (const row of reasons.rows) {
+                    const kind = row.name.replace(/ within .*/, "");
+                    told.set(kind, (told.get(kind) ?? 0) + 1);
                 }
+                if (reasons.rows.length === 0 && !reasons.throws) wrong(`${points} with ${roll} to ${to}: nothing is told`);
             }
         }
     }
-    const never = [...said].filter(([, count]) => count === 0).map(([name]) => name);
-    equal("forms that no question has", never, []);
-    console.log(`why: ${sentences} sentences of ${questions} questions; ${[...said].map(([name, count]) => `${name} ${count}`).join(", ")}`);
+    equal("rows that no play has", Object.keys(ROWS).concat("Off").filter((name) => !told.has(name)), []);
+    console.log(`why: ${questions} plays; ${[...told].map(([name, count]) => `${name} ${count}`).join(", ")}`);
 });

@@ -104,7 +104,7 @@ export const missKey = ({ at, roll, play }) => [at, roll.join(), play.text].join
 // Why it loses, sentence by sentence, once that is known.
 export function reasonsFor(state) {
     const miss = missOf(state);
-    return miss && state.why?.key === missKey(miss) ? state.why.says : [];
+    return miss && state.why?.key === missKey(miss) ? state.why.says : null;
 }
 
 // Whether the answer for a roll is hidden, since it is to be guessed.
