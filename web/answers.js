@@ -40,7 +40,8 @@ export function playsOf(database, points, roll) {
     const recorded = database.play(points, roll).to.join();
     return choicesOf(database, points, roll).map(({ to, lost, loss, isBest }) => {
         return {
-            ...playOf(database.playTo(points, roll, to)), loss, lossText: decimal(loss), exact: exactText(lost),
+            ...playOf(database.playTo(points, roll, to)), loss, lossText: decimal(loss),
+            exact: exactText(lost),
             isBest, isRecorded: to.join() === recorded,
         };
     });

@@ -41,8 +41,8 @@ const cardKey = ({ points, roll, theme }) =>
 
 const cardOf = (cards, question) => cards.find((one) => cardKey(one) === cardKey(question));
 
-// Those that come back on a day or before: the least known first, and of these what was missed last,
-// so that a miss comes back the next day however many wait, and then the dearest. All, or the plays,
+// Those that come back on a day or before: the least known first, of these what was missed last, so
+// that a miss comes back the next day however many wait, and then the dearest. All, or the plays,
 // or those of which one thing is estimated.
 export const dueOn = ({ cards }, day, ask = null) => cards
     .filter(({ due, roll, theme }) =>
@@ -116,7 +116,8 @@ export function answered(memory, told, day) {
     const cards = carded(memory.cards, asked, answer, day);
     const isLearnt = cards.length < memory.cards.length;
     return {
-        cards: boundedCards(cards), learnt: Math.min(MOST_COUNT, memory.learnt + (isLearnt ? 1 : 0)),
+        cards: boundedCards(cards),
+        learnt: Math.min(MOST_COUNT, memory.learnt + (isLearnt ? 1 : 0)),
         days: boundedDays(tallied(memory.days, day, [1, isMissed ? 1 : 0, isLast ? 1 : 0])),
         themes: tallied(memory.themes, theme, [1, isMissed ? 1 : 0, lost]),
         sizes: memory.sizes.map((count, size) =>
@@ -167,9 +168,9 @@ const APART = 100_000; // seeds between two drills of a day
 const backOf = ({ points, roll, theme, box }) =>
     ({ points, roll, ...(roll && box >= LIKE ? { theme } : {}) });
 
-// Today's ten, as a drill: first those that come back, and the rest new, by the number of the day, so
-// that who begins on one day is asked the same. Where ten come back none is new: so no more wait than
-// a student can answer. What follows on that day has another seed.
+// Today's ten, as a drill: first those that come back, and the rest new, by the number of the day,
+// so that who begins on one day is asked the same. Where ten come back none is new: so no more wait
+// than a student can answer. What follows on that day has another seed.
 export function todays(memory, day) {
     const theme = weakest(memory, day);
     return {

@@ -7,7 +7,7 @@ export const TEN = 10; // of today's ten
 
 const MODULUS = 2147483647;
 const MOST_TRIES = 20000; // until a drill has its questions
-const PATIENCE = 1000; // tries after which a question may tempt or not
+const PATIENCE = 1000; // tries after which any kind is asked, and after as many more either name
 
 // What a drill asks: the name in a link, the words, and the words within a sentence.
 export const ASKED = { play: "Play", pips: "Pip count", effective: "EPC", wastage: "Wastage" };
@@ -94,21 +94,22 @@ export function* numbersFrom(seed) {
     }
 }
 
-// A half of a drill's questions, at places that a number mixes, so that the place of a question
-// tells nothing.
-function halfOf(number) {
-    const are = Array.from({ length: QUESTIONS }, (_, place) => place % 2 === 0);
+// A list in an order that a number mixes, so that the place of a question tells nothing.
+function mixed(list, number) {
+    const are = [...list];
     const numbers = numbersFrom(number % MODULUS || 1);
-    for (let place = QUESTIONS - 1; place > 0; place -= 1) {
+    for (let place = are.length - 1; place > 0; place -= 1) {
         const other = numbers.next().value % (place + 1);
         [are[place], are[other]] = [are[other], are[place]];
     }
     return are;
 }
 
-// Which of a drill's questions tempt, and in which the best play does what its theme names.
-export const temptingOf = (seed) => halfOf(31 * seed + 7);
-export const followingOf = (seed) => halfOf(37 * seed + 11);
+// Of what kind each of a drill's questions is, as its level plans them: without a plan a half of
+// them tempts. And in which the best play does what its theme names.
+const HALF = Array.from({ length: QUESTIONS }, (_, place) => place % 2 === 0);
+export const kindsOf = (seed, plan = HALF) => mixed(plan, 31 * seed + 7);
+export const followingOf = (seed) => mixed(HALF, 37 * seed + 11);
 
 // Whether there is something to decide: more than one play, and the next best loses something.
 const decides = (plays) => plays.length > 1 && !plays[1].isBest;
@@ -118,11 +119,11 @@ const decides = (plays) => plays.length > 1 && !plays[1].isBest;
 // something to decide, and where its theme and its level ask it.
 function drawAt(places, without, { theme, seed, ask, level = "any" }, rolls, playsOf) {
     const asked = themeOf(theme);
-    const { isAsked } = LEVELS.find(({ name }) => name === level);
+    const { isAsked, plan } = LEVELS.find(({ name }) => name === level);
     const themed = positions(mostOf({ theme })).filter(asked.has);
     const taken = new Set(without.map(({ points }) => points.join()));
     const numbers = numbersFrom(seed);
-    const [tempts, follows] = [temptingOf(seed), followingOf(seed)];
+    const [kinds, follows] = [kindsOf(seed, plan), followingOf(seed)];
     const drawn = new Map();
     const most = Math.min(places.length, themed.length);
     let last = 0; // the try of the question that was drawn last
@@ -135,10 +136,10 @@ function drawAt(places, without, { theme, seed, ask, level = "any" }, rolls, pla
             continue;
         }
         const plays = playsOf(points, roll);
-        const [isTempting, isFollowing] = tries - last > PATIENCE ? [null, null]
-            : [tempts, follows].map((are) => are[places[drawn.size]]);
+        const [kind, isFollowing] = [kinds, follows].map((are, place) =>
+            (tries - last > (place + 1) * PATIENCE ? null : are[places[drawn.size]]));
         if (!decides(plays) || !isNamed(asked, points, plays, level, isFollowing)
-            || !isAsked(plays, isTempting, asked)) continue;
+            || !isAsked(plays, kind, asked)) continue;
         drawn.set(points.join(), { points, roll });
         last = tries;
     }

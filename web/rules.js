@@ -21,21 +21,20 @@ export const additionsOf = ([ace, deuce, three, ...high]) =>
     2 * over(ace, 1) + over(deuce, 1) + over(three, 3)
         + high.filter((count) => count === 0).length;
 
+const mostFilled = (plays) => leastBy(plays, ({ to }) => -to.filter((count) => count > 0).length);
+
 // The plays that a novice chooses from: those that bear off the most checkers, and of these those
 // that fill the most points.
-export const naturalOf = (plays) =>
-    leastBy(mostOff(plays), ({ to }) => -to.filter((count) => count > 0).length);
+export const naturalOf = (plays) => mostFilled(mostOff(plays));
 
-// Three rules that players go by: the natural one; to bear off the most, and then to leave the
-// fewest on the ace point; and the fewest pips with what is added for the shape.
+// Three rules that players go by: the natural one; to bear off the most, then to leave the fewest
+// on the ace point, and of such plays to fill the most points; and the fewest pips with what is
+// added for the shape.
 export const RULES = [
     naturalOf,
-    (plays) => leastBy(mostOff(plays), ({ to: [ace] }) => ace),
+    (plays) => mostFilled(leastBy(mostOff(plays), ({ to: [ace] }) => ace)),
     (plays) => leastBy(plays, ({ to }) => pipsOf(to) + additionsOf(to)),
 ];
-
-// How many of these rules choose plays that all lose something.
-export const failing = (plays) => RULES.filter((rule) => rule(plays).every(isMiss)).length;
 
 // Rules of thumb for the effective pip count: the name in a lesson, the words, the positions that
 // it is for, with words, and what it says of one, in thousandths of a pip.

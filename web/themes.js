@@ -1,6 +1,6 @@
 // What can be asked of a play: themes, and how hard a question is.
 import { GREATEST, MOST_CHECKERS, sumOf } from "./points.js";
-import { failing, isMiss, naturalOf, RULES } from "./rules.js";
+import { isMiss, naturalOf, RULES } from "./rules.js";
 
 // The positions of at most so many pips, in the order of their ranks: by pips, and then as words in
 // a dictionary.
@@ -32,12 +32,13 @@ const gapsOf = (points) => points.flatMap((count, place) =>
 const leastLeft = (plays) => Math.min(...plays.map(({ to }) => sumOf(to)));
 
 // The themes: the name in a link, the words, the positions, of at most `most` pips or else of 44,
-// whether a roll can have something to decide there, where the words name something that a play
-// does, whether one does it, and whether that is never natural.
+// whether a roll can have something to decide there, which levels it hasn't, where the words name
+// something that a play does, whether one does it, and whether that is never natural.
 export const THEMES = [
     { name: "all", words: "All positions", has: (points) => sumOf(points) > 1, isPlayed: true },
     {
-        name: "low", words: "Low stacks", isPlayed: true,
+        // whoever leaves the fewest on the ace point is nearly always right there
+        name: "low", words: "Low stacks", isPlayed: true, without: ["hard"],
         has: (points) => isWithin(1, 3)(points) && points.some((count) => count > 3),
     },
     {
@@ -65,6 +66,7 @@ export const THEMES = [
         name: "fewer", words: "How many to bear off", isPlayed: true,
         has: (points) => sumOf(points) > 1,
         does: ({ to }, points, plays) => sumOf(to) > leastLeft(plays), isTempting: true,
+        without: ["easy", "mixed"],
     },
     {
         name: "board", words: "The whole board", has: (points) => sumOf(points) > 1,
@@ -85,20 +87,31 @@ export const themeOf = (theme) => THEMES.find(({ name }) => name === theme);
 // Thousandths of a roll that the next best play loses, at most in a close decision and at least in
 // a clear one; and that a play at most loses that does what a theme names, where the best doesn't.
 const CLOSE = 20n;
+const HARD = 30n;
 const CLEAR = 80n;
 const NEAR = 40n;
 
 const isClose = ([, next], most) => isMiss(next) && next.loss <= most;
 
-// Of how many of the rules a hard question has to make fools.
-const MOST_FAIL = 2;
+// The kinds of the questions of a hard drill: whether the natural rule is right, or else fails, and
+// whether one of the other two is right. So neither a rule wins it nor what the rules don't choose.
+const kinds = (count, natural, others) =>
+    Array.from({ length: count }, () => ({ natural, others }));
+const HARD_PLAN = [
+    ...kinds(3, true, true), ...kinds(5, true, false), ...kinds(6, false, true),
+    ...kinds(6, false, false),
+];
+const isRight = (rule, plays) => !rule(plays).some(isMiss);
+const isOf = (plays, { natural, others }) =>
+    (natural ? isRight(naturalOf, plays) : naturalOf(plays).every(isMiss))
+        && RULES.slice(1).some((rule) => isRight(rule, plays)) === others;
 
 // How hard a drill is, the easiest first, and what may be any last: the name in a link, the words,
-// and which plays it asks of a theme, the best first, where a question tempts, where it doesn't,
-// or, where `tempts` is null, either way. In an easy one each rule is right, and the next best
-// loses much. In a mixed one the natural plays of those that tempt all lose something; of the
-// others one is best, and the next best loses little. In a hard one most of the rules fail, or,
-// where a theme's name is never natural, the next best loses little.
+// the kinds that are planned, and which plays it asks of a theme, the best first, where a question
+// is of a kind, or, where that is null, of any. In an easy one each rule is right, and the next
+// best loses much. In a mixed one the natural plays of those that tempt all lose something; of the
+// others one is best, and the next best loses little. In a hard one the next best loses little, and
+// which rules are right is planned, but where a theme's name is never natural.
 export const LEVELS = [
     { name: "any", words: "Any", isAsked: () => true },
     {
@@ -114,16 +127,15 @@ export const LEVELS = [
                     && naturalOf(plays).some(({ isBest }) => isBest)),
     },
     {
-        name: "hard", words: "Hard",
-        isAsked: (plays, tempts, { isTempting }) =>
-            (isTempting ? isClose(plays, NEAR) : failing(plays) >= MOST_FAIL),
+        name: "hard", words: "Hard", plan: HARD_PLAN,
+        isAsked: (plays, kind, { isTempting }) => (isTempting ? isClose(plays, NEAR)
+            : isClose(plays, HARD) && (kind === null || isOf(plays, kind))),
     },
 ];
 
 // The levels that a theme has: where what it names is never natural, none is easy or mixed.
-export const levelsOf = ({ theme, ask }) =>
-    LEVELS.filter(({ name }) => name === "any"
-        || (ask === "play" && (name === "hard" || !themeOf(theme).isTempting)));
+export const levelsOf = ({ theme, ask }) => LEVELS.filter(({ name }) => name === "any"
+    || (ask === "play" && !themeOf(theme).without?.includes(name)));
 
 // Whether a theme asks the plays of a roll, the best first, of some level: where its words name
 // something that a play does, one does it and another doesn't. The best does it where the question

@@ -1,7 +1,7 @@
-// Why a play loses: counts of what it leaves beside those of what the best leaves, and the throw that
-// tells them apart most. All are facts of the two positions and exact numbers of the database. No
-// count is called the better one: in a close decision fewer gaps, fewer checkers on the ace point and
-// lower stacks are the worse play's nearly as often as the best one's.
+// Why a play loses: counts of what it leaves beside those of what the best leaves, and the throw
+// that tells them apart most. All are facts of the two positions and exact numbers of the database.
+// No count is called the better one: in a close decision fewer gaps, fewer checkers on the ace point
+// and lower stacks are the worse play's nearly as often as the best one's.
 import { playFrom } from "./answers.js";
 import { pipsOf, sumOf } from "./points.js";
 import { ROLLS } from "./rolls.js";

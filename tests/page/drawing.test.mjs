@@ -8,7 +8,7 @@ import { readPoints } from "../../web/points.js";
 import { chances, dicePicture, die, kept, numbers } from "../../web/panels.js";
 import { asSvg, linesOf } from "../../web/picture.js";
 import { Bar, reached } from "../../web/progress.js";
-import { followingOf, numbersFrom, temptingOf } from "../../web/questions.js";
+import { followingOf, kindsOf, numbersFrom } from "../../web/questions.js";
 import { ROLLS } from "../../web/rolls.js";
 import { byLoss } from "../../web/state/reads.js";
 import { build, draw, h, textOf } from "../../web/tree.js";
@@ -230,7 +230,7 @@ part("the numbers of a seed", () => {
     // a half of the questions tempt, and a half follow their theme's name, at places that tell nothing of each other
     let [both, places] = [0, Array(20).fill(0)];
     for (let seed = 1; seed <= 400; seed += 1) {
-        const [tempts, follows] = [temptingOf(seed), followingOf(seed)];
+        const [tempts, follows] = [kindsOf(seed), followingOf(seed)];
         equal(`seed ${seed}: halves`, [tempts.length, ...[tempts, follows].map((are) => are.filter(Boolean).length)],
             [20, 10, 10]);
         both += tempts.filter((tempting, place) => tempting && follows[place]).length;

@@ -11,7 +11,7 @@ import { decimalOf } from "../../web/fractions.js";
 import { readPoints, sumOf } from "../../web/points.js";
 import { ROLLS } from "../../web/rolls.js";
 import { decimal, FAULTS, notation } from "../../web/texts.js";
-import { drillOf, followingOf, temptingOf } from "../../web/questions.js";
+import { drillOf, followingOf, kindsOf } from "../../web/questions.js";
 import { ADDITIONS } from "../../web/rules.js";
 import { levelsOf, positions, themeOf, THEMES } from "../../web/themes.js";
 import { answer, Desk, drawn, rollsOf, serve } from "../../web/worker.js";
@@ -186,11 +186,11 @@ async function compareDrawn(desk) {
 }
 
 // Three rules that players go by, each with the plays that it chooses: the most borne off, and then
-// the most points filled; the most borne off, and then the fewest on the ace point; and the fewest
-// pips with Tom Keith's additions.
+// the most points filled; the most borne off, then the fewest on the ace point, and then the most
+// points filled; and the fewest pips with Tom Keith's additions.
 const RULES_OF_THUMB = [
     ({ to }) => 20 * sumOf(to) - to.filter((count) => count > 0).length,
-    ({ to }) => 20 * sumOf(to) + to[0],
+    ({ to }) => 400 * sumOf(to) + 20 * to[0] - to.filter((count) => count > 0).length,
     ({ to: [ace, deuce, three, ...high] }) => [ace, deuce, three,
         ...high].reduce((sum, count, place) => sum + count * (place + 1), 0)
         + 2 * Math.max(0, ace - 1) + Math.max(0, deuce - 1) + Math.max(0, three - 3)
@@ -208,16 +208,34 @@ const NAMED = {
     fewer: ({ to }, points, plays) => sumOf(to) > Math.min(...plays.map((play) => sumOf(play.to))),
 };
 
+// Guesses without knowledge: any play, each rule, the play that only one rule chooses, and the most natural
+// one of those that the natural rule doesn't choose. Of the plays that a guess leaves, how many are right.
+const partOf = (plays) => (plays.length === 0 ? 0 : plays.filter(({ loss }) => loss === 0n).length / plays.length);
+const without = (plays, some) => plays.filter((play) => !some.includes(play));
+const GUESSES = [
+    (plays) => plays, ...RULES_OF_THUMB.map((rule) => (plays) => chosenBy(rule, plays)),
+    (plays) => {
+        const chosen = RULES_OF_THUMB.flatMap((rule) => chosenBy(rule, plays));
+        const alone = plays.filter((play) => chosen.filter((one) => one === play).length === 1);
+        return alone.length > 0 ? alone : without(plays, chosen);
+    },
+    (plays) => {
+        const rest = without(plays, chosenBy(RULES_OF_THUMB[0], plays));
+        return rest.length > 0 ? chosenBy(RULES_OF_THUMB[0], rest) : [];
+    },
+];
+
 // By its level: whoever goes by a rule of thumb is right in all of the easy questions, whose next
-// best play loses a good deal; in a half of the mixed ones; and in the hard ones two rules of three
-// fail. Where a theme's name says what to play, it is wrong in a half.
+// best play loses a good deal; in a half of the mixed ones; and in the hard ones, whose next best
+// loses little, neither a rule nor one that is made of them is right in more than six of ten. Where a
+// theme's name says what to play, it is wrong in a half.
 function compareLevels(database) {
     const isRight = (plays, rule = RULES_OF_THUMB[0]) => chosenBy(rule, plays).some(({ exact }) => exact === "0/1");
     for (const { name } of THEMES.filter(({ isPlayed, most = 44 }) => isPlayed
             && (most > 44) === (database.bound > 44))) {
         for (const level of levelsOf({ theme: name, ask: "play" }).map((one) => one.name)) {
-            let [count, close, slowest] = [0, 0, 0];
-            const right = [0, 0, 0];
+            let [count, close, slowest, fails] = [0, 0, 0, 0];
+            const [right, byRule] = [[0, 0, 0], GUESSES.map(() => 0)];
             for (const seed of [3, 1789, 20260101]) {
                 const begun = performance.now();
                 const questions = drawn(database, drillOf({ theme: name, seed, ask: "play", level }));
@@ -226,7 +244,7 @@ function compareLevels(database) {
                         plays: playsOf(database, points, roll) }));
                 // where it tempts, and where the best play is as the theme's name says, the seed
                 // tells; a position that is drawn again changes its question
-                const tempts = temptingOf(seed);
+                const tempts = kindsOf(seed);
                 const asSaid = all.filter(({ plays }, place) => isRight(plays) !== tempts[place]).length;
                 if (level === "mixed") equal(`${name}: mixed ones of ${seed} tempt where the seed says`, asSaid >= 15,
                     true);
@@ -257,17 +275,20 @@ function compareLevels(database) {
                             && next.loss < 80n) wrong(`${name}, easy: ${points} ${roll} loses ${next.loss} thousandths`);
                     if (level === "mixed" && isRight(plays)
                             && next.loss > 20n) wrong(`${name}, mixed: ${points} ${roll} is neither`);
-                    const failing = RULES_OF_THUMB.filter((rule) => chosenBy(rule,
-                            plays).every(({ loss }) => loss > 0n)).length;
-                    if (level === "hard" && (name === "fewer" ? next.loss > 40n || next.loss === 0n
-                            : failing < 2)) wrong(`${name}, hard: ${points} ${roll} isn't`);
+                    GUESSES.forEach((guess, place) => { byRule[place] += partOf(guess(plays)); });
+                    fails += chosenBy(RULES_OF_THUMB[0], plays).every(({ loss }) => loss > 0n) ? 1 : 0;
+                    if (level === "hard" && (next.loss > (name === "fewer" ? 40n : 30n) || next.loss === 0n)) {
+                        wrong(`${name}, hard: ${points} ${roll} isn't`);
+                    }
                 }
             }
             equal(`${name}, ${level}: questions`, count, 60);
             if (level === "mixed") equal(`${name}: the novice in the mixed ones`,
                 100 * right[0] >= 40 * count && 100 * right[0] <= 60 * count, true);
-            if (level === "hard" && name !== "fewer") equal(`${name}: the novice in the hard ones`,
-                100 * right[0] < 40 * count, true);
+            if (level === "hard") {
+                equal(`${name}: guesses that win the hard ones`, byRule.filter((sum) => sum > 0.62 * count), []);
+                equal(`${name}: the novice is right in some of the hard ones`, count - fails > 0.25 * count, true);
+            }
             if (level === "easy") equal(`${name}: each rule in the easy ones`, right, [count, count, count]);
             console.log(`page: ${name}, ${level}: three rules are right in ${right.join(", ")} of ${count}, ${close} of which are close; drawn in ${slowest.toFixed(0)} ms at most`);
         }

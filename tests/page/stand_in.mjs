@@ -303,5 +303,5 @@ export const playedBefore = ({ guesses, again, estimates, estimatesAgain }, play
 // fills a point and bears off fewer.
 export const drawFrom = (drill) => drawQuestions(drill, ROLLS, (points) => [
     { isBest: true, to: points.map((count) => Math.max(1, count)), loss: 0n },
-        { isBest: false, to: [1, 0, 0, 0, 0, 0], loss: 50n },
+        { isBest: false, to: [1, 0, 0, 0, 0, 0], loss: 30n },
 ]);

@@ -14,7 +14,7 @@ import { received, wanted } from "../../web/state/database.js";
 import { isFar, measuredOf, missedOf, missKey, mistakesOf, verdictOf } from "../../web/state/reads.js";
 import { begin } from "../../web/state.js";
 import { giveEstimate } from "../../web/state/training.js";
-import { drawQuestions, drillOf, mostOf, numbersFrom, temptingOf } from "../../web/questions.js";
+import { drawQuestions, drillOf, mostOf, numbersFrom, kindsOf } from "../../web/questions.js";
 import { isNamed, LEVELS, levelsOf, positions, THEMES } from "../../web/themes.js";
 import { meanOf, readEstimate, readLessons, writeLesson } from "../../web/trainer.js";
 import { drawn } from "../../web/worker.js";
@@ -22,7 +22,6 @@ import { thumb } from "../../web/training.js";
 import { textOf } from "../../web/tree.js";
 import { view } from "../../web/view.js";
 import { equal as same, part as test, wrong as fault } from "./given.mjs";
-import { failing } from "../../web/rules.js";
 import { reachedBy, ways } from "../../web/steps.js";
 import { answerTo, newDocument, drawFrom, legalFrom, pipsOf, rollsFrom, settled, whyFrom, Window, Worker,
     tell } from "./stand_in.mjs";
@@ -1295,31 +1294,35 @@ function trained() {
         equal(`what a mixed one asks, ${tempts}`,
             [[500n, tempted], [1n, tempted], [1n, natural], [20n, natural], [21n, natural],
             [0n, tempted]].map(([loss, best]) => asks("mixed", loss, best, tempts)), wanted);
-        equal(`what a hard one asks, ${tempts}`,
-            [[500n, tempted], [1n, tempted], [1n, natural], [21n, natural],
-            [0n, tempted]].map(([loss, best]) => asks("hard", loss, best, tempts)), [true, true, false, false, false]);
     }
-    // the rules fail one by one: the most off, and the most points filled; the most off, and the fewest aces; the least
-    // count
+    // the natural rule, that of the fewest aces and that of the least count are right and wrong in turn
     const failed = [
         [[[0, 2, 0, 0, 0, 0], 0n], [[1, 1, 0, 0, 0, 0], 9n]], [[[2, 0, 0, 0, 0, 0], 0n], [[0, 2, 0, 0, 0, 0], 9n]],
             [[[2, 0, 0, 0, 0, 1], 0n], [[0, 1, 1, 0, 1, 0], 9n]], [[[2, 0, 0, 0, 0, 0], 0n], [[1, 0, 0, 0, 0, 0], 9n]],
-        [[[1, 0, 0, 0, 0, 0], 0n], [[0, 1, 1, 0, 0, 0], 9n]],
+        [[[1, 0, 0, 0, 0, 0], 0n], [[0, 1, 1, 0, 0, 0], 9n]], [[[1, 0, 0, 0, 0, 1], 0n], [[0, 2, 0, 0, 0, 0], 9n]],
     ].map((plays) => plays.map(([to, loss]) => ({ to, loss, isBest: loss === 0n })));
-    equal("how many rules fail", failed.map(failing), [2, 1, 2, 3, 0]);
-    equal("what two of three make hard", failed.map((plays) => LEVELS.find(({ name }) => name === "hard").isAsked(plays,
-            null, {})), [true, false, true, true, false]);
+    const { isAsked, plan } = LEVELS.find(({ name }) => name === "hard");
+    const planned = [[true, true], [true, false], [false, true], [false, false]]
+        .map(([isNatural, others]) => ({ natural: isNatural, others }));
+    equal("of which kind each is", failed.map((plays) => planned.findIndex((kind) => isAsked(plays, kind, {}))),
+        [2, -1, 3, 3, 0, 1]);
+    equal("of one kind alone, but where the natural rule chooses both", failed.map((plays) => planned.filter((kind) => isAsked(plays, kind, {})).length),
+        [1, 0, 1, 1, 1, 1]);
+    equal("of any kind, and close", [0n, 1n, 30n, 31n].map((loss) => asks("hard", loss, natural)), [false, true, true, false]);
+    equal("how many of each kind are planned", planned.map((kind) =>
+        plan.filter((one) => JSON.stringify(one) === JSON.stringify(kind)).length), [3, 5, 6, 6]);
     equal("and where each question tempts", [1n, 40n, 41n, 0n].map((loss) => asks("hard", loss, tempted, false, true)),
         [true, true, false, false]);
     equal("no level but those that are there",
         [levelsOf({ theme: "fewer", ask: "play" }), levelsOf({ theme: "all", ask: "pips" }),
-        levelsOf({ theme: "all", ask: "play" })].map((levels) => levels.map(({ name }) => name).join()),
-        ["any,hard", "any", "any,easy,mixed,hard"]);
+        levelsOf({ theme: "low", ask: "play" }), levelsOf({ theme: "all", ask: "play" })].map((levels) =>
+            levels.map(({ name }) => name).join()),
+        ["any,hard", "any", "any,easy,mixed", "any,easy,mixed,hard"]);
     equal("a drill has one of them", [drillOf({ theme: "fewer", seed: 1, ask: "play", level: "easy" }),
             drillOf({ theme: "all", seed: 1, ask: "wastage", level: "hard" })].map(({ level }) => level),
         [undefined, undefined]);
     // at each place a half of the seeds tempts, at whatever place after it too, and of each drill ten questions do
-    const mixed = Array.from({ length: 400 }, (_, seed) => temptingOf(997 * seed + 1));
+    const mixed = Array.from({ length: 400 }, (_, seed) => kindsOf(997 * seed + 1));
     equal("ten of each tempt", mixed.every((tempts) => tempts.length === 20 && tempts.filter(Boolean).length === 10),
         true);
     equal("no place tells", Array.from({ length: 20 },
@@ -1328,13 +1331,13 @@ function trained() {
     equal("nor what came before", Array.from({ length: 19 },
             (_, place) => mixed.filter((tempts) => tempts[place] === tempts[place + 1]).length)
         .filter((count) => count < 140 || count > 240), []);
-    equal("a seed mixes the same", temptingOf(31).join(), temptingOf(31).join());
+    equal("a seed mixes the same", kindsOf(31).join(), kindsOf(31).join());
     const kinds = (points, [high]) => (high > 3 ? [{ isBest: true, loss: 0n, to: [2, 0, 0, 0, 0, 0] },
             { isBest: false, loss: 90n, to: [1, 0, 0, 0, 0, 0] }]
         : [{ isBest: true, loss: 0n, to: [1, 0, 0, 0, 0, 0] }, { isBest: false, loss: 5n, to: [2, 0, 0, 0, 0, 0] }]);
     equal("a mixed drill tempts where its seed says",
         drawQuestions({ theme: "all", seed: 31, ask: "play", level: "mixed" }, ROLLS,
-        kinds).map(({ roll: [high] }) => high > 3).join(), temptingOf(31).join());
+        kinds).map(({ roll: [high] }) => high > 3).join(), kindsOf(31).join());
     equal("where nothing tempts, it asks the rest",
         drawQuestions({ theme: "all", seed: 31, ask: "play", level: "mixed" }, ROLLS,
         (points) => kinds(points, [1])).length, 20);

@@ -38,7 +38,8 @@ function step(codes, die, found = []) {
 }
 
 // Where a throw leads: in both orders, or four times.
-const ends = (code, [one, other]) => (one === other ? [one, one, one, one].reduce((codes, die) => step(codes, die), [code])
+const ends = (code, [one, other]) => (one === other
+    ? [one, one, one, one].reduce((codes, die) => step(codes, die), [code])
     : step(step([code], other), one, step(step([code], one), other)));
 
 // Of each position by its number the mean, the chance to be off within so many rolls, and where each
@@ -56,24 +57,28 @@ for (const code of order.slice(1)) {
         return all.filter((to) => table.get(to).mean <= least + SAME)
             .reduce((one, other) => (rankOf.get(other) < rankOf.get(one) ? other : one));
     });
-    const over = (numberOf) => plays.reduce((sum, to, place) => sum + weight(DICE[place]) * numberOf(table.get(to)), 0) / 36;
+    const over = (numberOf) =>
+        plays.reduce((sum, to, place) => sum + weight(DICE[place]) * numberOf(table.get(to)), 0) / 36;
     table.set(code, {
         plays, mean: 1 + over(({ mean }) => mean),
-        within: Array.from({ length: LONGEST }, (_, rolls) => (rolls === 0 ? 0 : over(({ within }) => within[rolls - 1]))),
+        within: Array.from({ length: LONGEST }, (_, rolls) =>
+            (rolls === 0 ? 0 : over(({ within }) => within[rolls - 1]))),
     });
 }
 const playOf = (code, roll) => (code === 0 ? 0
     : table.get(code).plays[DICE.findIndex((dice) => dice.join() === [...roll].sort((a, b) => b - a).join())]);
 const throwsOf = (is) => DICE.filter(is).reduce((all, roll) => all + weight(roll), 0);
 
-const gaps = (code) => POINTS.filter((point) => point > 1 && countOn(code, point) === 0 && code >= 16 ** point).reverse();
+const gaps = (code) => POINTS.filter((point) => point > 1 && countOn(code, point) === 0
+    && code >= 16 ** point).reverse();
 const wastage = (code) => (49 * table.get(code).mean) / 6 - pips(code);
 const near = (told, is, most) => Math.abs(Number(told) - is) < most;
 const isPercent = (text, is) => text.endsWith(" %") && near(text.slice(0, -2), 100 * is, 0.0501);
 
 // Each row by its name: whether its text is so of a position, and whether it has to stand there.
 const ROWS = {
-    "Checkers left": [(text, code) => text === String(checkers(code)), (made, best) => checkers(made) !== checkers(best)],
+    "Checkers left": [(text, code) => text === String(checkers(code)),
+        (made, best) => checkers(made) !== checkers(best)],
     "Pips left": [(text, code) => text === String(pips(code)), (made, best) => pips(made) !== pips(best)],
     "Wastage in pips": [(text, code) => near(text, wastage(code), 0.00051), (made, best) => pips(made) !== pips(best)],
     "Empty points": [(text, code) => text === (gaps(code).join(", ") || "none"),
@@ -83,7 +88,8 @@ const ROWS = {
     "Tallest stack": [(text, code) => text === String(Math.max(...POINTS.map((point) => countOn(code, point)))),
         (made, best) => Math.max(...POINTS.map((point) => countOn(made, point)))
             !== Math.max(...POINTS.map((point) => countOn(best, point)))],
-    "Throws that bear off two": [(text, code) => text === `${pairs(code)} of 36`, (made, best) => pairs(made) !== pairs(best)],
+    "Throws that bear off two": [(text, code) => text === `${pairs(code)} of 36`,
+        (made, best) => pairs(made) !== pairs(best)],
 };
 const pairs = (code) => throwsOf((roll) => ends(code, roll).some((to) => checkers(code) - checkers(to) >= 2));
 
@@ -93,7 +99,8 @@ function faultIn({ rows, throws }, made, best) {
     if (told.size !== rows.length) return "a row stands twice";
     const more = (rolls) => table.get(best).within[rolls] - table.get(made).within[rolls];
     const telling = Math.max(...table.get(best).within.map((_, rolls) => more(rolls)));
-    const names = Object.keys(ROWS).filter((name) => (best !== 0 || name === "Checkers left") && ROWS[name][1](made, best));
+    const names = Object.keys(ROWS)
+        .filter((name) => (best !== 0 || name === "Checkers left") && ROWS[name][1](made, best));
     for (const name of names) {
         const row = told.get(name);
         if (!row) return `no row ${name}`;
@@ -106,9 +113,8 @@ function faultIn({ rows, throws }, made, best) {
     if (rolls === undefined ? telling > 0.0061 : telling < 0.0039 || more(Number(rolls)) < telling - 0.0011) {
         return `${name} ${more(Number(rolls))} of ${telling}`;
     }
-    if (row && !(isPercent(row.made, table.get(made).within[rolls]) && isPercent(row.best, table.get(best).within[rolls]))) {
-        return JSON.stringify(row);
-    }
+    const isChance = (text, code) => isPercent(text, table.get(code).within[rolls]);
+    if (row && !(isChance(row.made, made) && isChance(row.best, best))) return JSON.stringify(row);
     if (best === 0 || throws === null) return (best === 0) === (throws === null) ? "" : `throws ${throws}`;
     const lost = (roll) => table.get(playOf(made, roll)).mean - table.get(playOf(best, roll)).mean;
     const costs = DICE.map((roll) => weight(roll) * lost(roll));
@@ -124,7 +130,8 @@ function faultIn({ rows, throws }, made, best) {
         });
         const off = checkers(code) - checkers(to);
         if (codeOf(points) !== code) return `a reply from ${points}`;
-        if (effectOf(text) !== [...effect, ...(off > 0 ? [`off:${off}`] : [])].sort().join(" ")) return `the reply ${text}`;
+        const whole = off > 0 ? [...effect, `off:${off}`] : effect;
+        if (effectOf(text) !== whole.sort().join(" ")) return `the reply ${text}`;
         if (moves.reduce((at, [from, on]) => at - 16 ** (from - 1) + (on > 0 ? 16 ** (on - 1) : 0), code) !== to) {
             return `the moves ${moves}`;
         }
@@ -155,7 +162,7 @@ part("what is told of a play that loses", async () => {
                     const kind = row.name.replace(/ within .*/, "");
                     told.set(kind, (told.get(kind) ?? 0) + 1);
                 }
-                if (reasons.rows.length === 0 && !reasons.throws) wrong(`${points} with ${roll} to ${to}: nothing is told`);
+                if (reasons.rows.length === 0 && !reasons.throws) wrong(`${points} to ${to}: nothing is told`);
             }
         }
     }

@@ -35,15 +35,16 @@ function drawing(seed) {
     const is = () => below(2) === 1;
     const many = (most, make) => Array.from({ length: below(most + 1) }, make);
     // a number of a range, often one of its ends
-    const number = (least, most) => one([least, most, least + below(most - least + 1), Math.min(most, least + below(9))]);
+    const number = (least, most) =>
+        one([least, most, least + below(most - least + 1), Math.min(most, least + below(9))]);
     const points = (least = 0) => {
         const counts = [0, 0, 0, 0, 0, 0];
         for (let left = number(least, 15); left > 0; left -= 1) counts[below(6)] += 1;
         return counts;
     };
-    const PARTS = ["a", " ", "  ", "\n", "\r\n", "\t", "\u2028", "\ufeff", "\ud83c\udfb2", "\ud83d", "\udfb2", "\u00e9", "\0", "#", "&",
-        "=", "%", "+", "\"", "<b>", "lesson: x", "step: 1,0,0,0,0,0", "name ", "lost 1", "-", "{EPC}", "\u202e", "x".repeat(59),
-        "y".repeat(199), "z".repeat(1199)];
+    const PARTS = ["a", " ", "  ", "\n", "\r\n", "\t", "\u2028", "\ufeff", "\ud83c\udfb2", "\ud83d", "\udfb2",
+        "\u00e9", "\0", "#", "&", "=", "%", "+", "\"", "<b>", "lesson: x", "step: 1,0,0,0,0,0", "name ", "lost 1",
+        "-", "{EPC}", "\u202e", "x".repeat(59), "y".repeat(199), "z".repeat(1199)];
     const text = () => many(7, () => one(PARTS)).join("");
     return { below, one, is, many, number, points, text };
 }
@@ -70,7 +71,8 @@ function drillFrom(draw, hasDue = draw.is()) {
         points: draw.points(1), roll: ask === "play" ? draw.one(ROLLS) : null,
         ...(ask === "play" && draw.is() ? { theme: draw.one(played) } : {}),
     })) : null;
-    return drillOf({ theme, seed: draw.number(1, 999999999), ask, level: draw.one(levelsOf({ theme, ask })).name, due });
+    const level = draw.one(levelsOf({ theme, ask })).name;
+    return drillOf({ theme, seed: draw.number(1, 999999999), ask, level, due });
 }
 
 // An answer with as much as one can lose, and more; often to what comes back.
@@ -83,7 +85,8 @@ function answerFrom(draw, { cards }) {
     const { points, roll, theme } = cards.length > 0 && draw.below(3) > 0 ? draw.one(cards) : asked;
     return {
         points, roll, theme,
-        lost: draw.one([0, draw.number(0, 2000), draw.number(MOST_LOST - 1, 2 * MOST_LOST)]), natural: draw.number(0, MOST_LOST),
+        lost: draw.one([0, draw.number(0, 2000), draw.number(MOST_LOST - 1, 2 * MOST_LOST)]),
+        natural: draw.number(0, MOST_LOST),
         isMissed: draw.is(), isLast: draw.is(),
     };
 }
@@ -106,7 +109,8 @@ function memoryText(draw) {
         ...once(draw.many(draw.one([9, MOST_CARDS + 9]), () => {
             const [at, roll] = [draw.points(1).join(), draw.is() ? draw.one(ROLLS).join("") : null];
             const theme = draw.one(roll ? played : ESTIMATED);
-            return [`${at} ${roll ?? theme}`, `card ${at} ${roll ?? "-"} ${theme} ${draw.number(0, BOXES.length - 1)} ${
+            return [`${at} ${roll ?? theme}`,
+                `card ${at} ${roll ?? "-"} ${theme} ${draw.number(0, BOXES.length - 1)} ${
                 draw.number(0, 999999)} ${draw.number(0, MOST_LOST)}`];
         })),
     ].join("\n");
@@ -114,7 +118,8 @@ function memoryText(draw) {
 
 // A clock that is set to anything.
 const clockFrom = (draw) => ({
-    getTime: () => draw.one([-1, 1]) * draw.one([0, 1, 86400000, draw.below(2 ** 31), draw.below(2 ** 31) * 1e6, 8.64e15]),
+    getTime: () => draw.one([-1, 1]) * draw.one([0, 1, 86400000, draw.below(2 ** 31), draw.below(2 ** 31) * 1e6,
+        8.64e15]),
     getTimezoneOffset: () => draw.number(-840, 840),
 });
 
@@ -166,29 +171,32 @@ drawn("the results of a class", (draw) => {
     const [drill, count] = [drillFrom(draw, false), 1 + draw.below(QUESTIONS)];
     const pupils = Array.from({ length: 1 + draw.below(5) }, () => ({
         name: `${draw.text()}n${draw.text()}`,
-        lost: Array.from({ length: count }, () => draw.one([null, 0, draw.number(0, 3000), draw.number(0, 3 * MOST_LOST)])),
+        lost: Array.from({ length: count }, () =>
+            draw.one([null, 0, draw.number(0, 3000), draw.number(0, 3 * MOST_LOST)])),
     }));
     const texts = pupils.map(({ name, lost }) => writeResult(drill, name, lost));
     const { results, fault } = readResults(texts.join(draw.one(["\n", "\n\nDear teacher,\n", "\r\n"])));
     assert.equal(fault, "");
     results.forEach((result, place) => {
         assert.deepEqual(result.drill, drill);
-        assert.deepEqual(result.lost, pupils[place].lost.map((lost) => (lost === null ? null : Math.min(lost, MOST_LOST))));
+        assert.deepEqual(result.lost, pupils[place].lost.map((lost) =>
+            (lost === null ? null : Math.min(lost, MOST_LOST))));
         // the same again
         assert.equal(writeResult(result.drill, result.name, result.lost), texts[place]);
     });
 });
 
 drawn("a link", (draw) => {
-    const kept = [...new Map(draw.many(MOST_KEPT, () => draw.points()).map((points) => [points.join(), points])).values()]
-        .reduce((state, points) => setCaption(keep({ ...state, points }), points.join(), draw.text()), { kept: [] }).kept;
+    const { kept } = draw.many(MOST_KEPT, () => draw.points()).reduce((shelf, points) =>
+        setCaption(keep({ ...shelf, points }), points.join(), draw.text()), { kept: [] });
     const lesson = draw.is() ? draw.number(1, 99) : null;
     const text = lesson || draw.is() ? "" : writeLesson(lessonFrom(draw));
     const roll = draw.is() ? draw.one(ROLLS) : null;
     const drill = draw.is() ? drillFrom(draw) : null;
     const state = {
         points: draw.points(), kept, title: readLink(`#${new URLSearchParams({ t: draw.text() })}`).title, roll,
-        guess: draw.is(), bound: draw.one([44, 90]), isCompact: draw.is(), drill, place: drill ? draw.number(0, 98) : 0,
+        guess: draw.is(), bound: draw.one([44, 90]), isCompact: draw.is(), drill,
+        place: drill ? draw.number(0, 98) : 0,
         estimate: draw.one([null, ...ESTIMATED]), lesson, text, step: draw.number(1, 60),
     };
     const link = writeLink(state);
@@ -205,7 +213,8 @@ function draftFrom(draw) {
         .reduce((state, points) => keep({ ...state, points }), { kept: [], points: START, title: draw.text() });
     const made = titleDraft(beginDraft({ ...kept, title: "" }), `${draw.text()}t${draw.text()}`);
     return made.draft.steps.reduce((state, _, place) => ["roll", "text", "ask", "answer"].reduce((next, word) =>
-        typeDraft(next, place, word, word === "roll" ? draw.one(["", draw.one(ROLLS).join("")]) : draw.text()), state), made);
+        typeDraft(next, place, word, word === "roll" ? draw.one(["", draw.one(ROLLS).join("")]) : draw.text()),
+            state), made);
 }
 
 const lessonFrom = (draw) => readLessons(draftText(draftFrom(draw)).text).lessons[0];
