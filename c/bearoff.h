@@ -125,7 +125,7 @@ typedef struct bearoff_rounded {
 } bearoff_rounded;
 
 /* How far an effective pip count is from the pip count, in thousandths of a pip, and whether it is
- * below it; where it is not, that is how much the position wastes. */
+ * below it, as of no position it is: that is how much the position wastes. */
 typedef struct bearoff_wasted {
     uint64_t thousandths;
     bool is_below;
@@ -281,7 +281,8 @@ uint32_t bearoff_epc(const bearoff_file *file, const bearoff_position *position,
 
 /*
  * The wastage: the thousandths of the effective pip count, less 1000 times the pip count. Where
- * that is less than 0 `is_below` is true, and `thousandths` is how far below 0 it is. The statuses
+ * that is less than 0, as of no position it is, `is_below` is true, and `thousandths` is how far
+ * below 0 it is. The statuses
  * of bearoff_mean.
  */
 uint32_t bearoff_wastage(const bearoff_file *file, const bearoff_position *position,
