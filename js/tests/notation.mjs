@@ -194,6 +194,21 @@ function compareWithGnubg() {
     equal("changed texts that are read, and refused", answered > 300 && told.changed.length - answered > 2000, true);
 }
 
+// The texts that each language reads, or refuses, as tests/texts.txt says.
+function comparePositions() {
+    const rows = readFileSync(new URL("../../tests/texts.txt", import.meta.url), "ascii").split("\n")
+        .filter((row) => row && !row.startsWith("#"));
+    equal("texts of positions", rows.length > 40, true);
+    for (const row of rows) {
+        const [, , verdict, coded] = row.match(/^(\S+) (\S+) ?(.*)$/);
+        const text = decodeURIComponent(coded);
+        const told = outcome(read, text);
+        const is = { malformed: "bad-text" }[told] ?? (typeof told === "string" ? told : `${told.mine}`);
+        equal(`the position ${coded}`, is, verdict);
+    }
+}
+
+comparePositions();
 compareTexts();
 readAnyText();
 compareWritten();
