@@ -7,7 +7,7 @@ export const TEN = 10; // of today's ten
 
 const MODULUS = 2147483647;
 const MOST_TRIES = 20000; // until a drill has its questions
-const PATIENCE = 1000; // tries after which any kind is asked, and after as many more either name
+const PATIENCE = [1000, 1500]; // tries after which any kind is asked, and either by the name
 
 // What a drill asks: the name in a link, the words, and the words within a sentence.
 export const ASKED = { play: "Play", pips: "Pip count", effective: "EPC", wastage: "Wastage" };
@@ -137,7 +137,7 @@ function drawAt(places, without, { theme, seed, ask, level = "any" }, rolls, pla
         }
         const plays = playsOf(points, roll);
         const [kind, isFollowing] = [kinds, follows].map((are, place) =>
-            (tries - last > (place + 1) * PATIENCE ? null : are[places[drawn.size]]));
+            (tries - last > PATIENCE[place] ? null : are[places[drawn.size]]));
         if (!decides(plays) || !isNamed(asked, points, plays, level, isFollowing)
             || !isAsked(plays, kind, asked)) continue;
         drawn.set(points.join(), { points, roll });
