@@ -16,7 +16,7 @@ help install uninstall release: export override DIR := $(value DIR)
 VERSION := $(shell cat VERSION)
 
 # the sum of the sources, as old as their last change here: times of sources themselves tell nothing,
-# since a file may come from elsewhere with its own
+# since a file may come from elsewhere with its own; each make writes it under a name of its own
 SOURCES := out/sources
 MODULES := $(OUT)/modules/wide.wasm $(OUT)/modules/narrow.wasm
 PAGE := $(OUT)/bearoff.html
@@ -60,8 +60,8 @@ needs:
 	tests/needs.py
 
 $(SOURCES): always
-	@mkdir -p $(@D) && tools/sources >$@.new && \
-		if cmp -s $@.new $@; then rm $@.new; else mv $@.new $@; fi
+	@mkdir -p $(@D) && new=$@.$$$$ && tools/sources >$$new && \
+		if cmp -s $$new $@; then rm $$new; else mv $$new $@; fi
 
 # does nothing where that is done already
 prove:

@@ -1,10 +1,10 @@
 """The Python, and the C of tests, are laid out as `make format` lays them out; no line of the crates
-is too long; no test names a device of the machine to a program; and no sum that may only fall has
-risen."""
+is too long; no test names a device of the machine to a program; no sum that may only fall has
+risen; and a make beside another one does no harm."""
 
 import re
 import shutil
-from pathlib import Path
+import subprocess
 
 import pytest
 
@@ -14,22 +14,36 @@ from running import ROOT, expect_same, expect_that, need, run, succeed
 VERSIONS = {"black": " 23.", "clang-format": " 14."}
 
 
+def copy_all(room):
+    """Copies what is tracked into a repository of its own, and gives the names."""
+    names = succeed("git", "ls-files", "-z", cwd=ROOT).decode("utf-8").split("\0")[:-1]
+    names = [name for name in names if (ROOT / name).exists()]
+    for name in names:
+        (room / name).parent.mkdir(parents=True, exist_ok=True)
+        shutil.copy(ROOT / name, room / name)
+    succeed("git", "init", "--quiet")
+    succeed("git", "add", "--all")
+    return names
+
+
 def test_layout(room):
     """In a copy `make format` changes nothing."""
     need("git", "make", *VERSIONS)
     for tool, version in VERSIONS.items():
         if version not in succeed(tool, "--version").decode("utf-8"):
             pytest.skip(f"this {tool} is not of version{version}")
-    files = succeed("git", "ls-files", "-z", cwd=ROOT).decode("utf-8").split("\0")[:-1]
-    files = [name for name in files if (ROOT / name).exists()]
-    for name in files:
-        Path(name).parent.mkdir(parents=True, exist_ok=True)
-        shutil.copy(ROOT / name, name)
-    succeed("git", "init", "--quiet")
-    succeed("git", "add", "--all")
+    names = copy_all(room)
     succeed("make", "format")
-    for name in files:
+    for name in names:
         expect_same(name, ROOT / name, f"{name}: run make format")
+
+
+def test_makes_at_once(room):
+    """Twenty at once say of which sources things are made."""
+    copy_all(room)
+    makes = [subprocess.Popen(["make", "--silent", "out/sources"]) for _ in range(20)]
+    assert [make.wait() for make in makes] == [0] * 20
+    assert (room / "out/sources").read_bytes() == succeed(ROOT / "tools/sources")
 
 
 def test_columns():
@@ -47,12 +61,7 @@ def test_columns():
 def test_ceilings(room):
     """Each sum is at most its ceiling; in a copy, one line more of the page is one too many."""
     succeed(ROOT / "tools/counts", "--sums")
-    for name in succeed("git", "ls-files", "-z", cwd=ROOT).decode("utf-8").split("\0")[:-1]:
-        if (ROOT / name).exists():
-            (room / name).parent.mkdir(parents=True, exist_ok=True)
-            shutil.copy(ROOT / name, room / name)
-    succeed("git", "init", "--quiet")
-    succeed("git", "add", "--all")
+    copy_all(room)
     succeed(room / "tools/counts", "--lower")
     with open(room / "web/why.js", "a", encoding="utf-8") as page:
         page.write("\n")
