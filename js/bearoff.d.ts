@@ -8,8 +8,9 @@
  * and so is what the module answers; the script hands numbers over.
  *
  * Each argument is checked before the module is asked. One of another type, or a list of another length, is a
- * `TypeError`; a number that isn't whole, or is out of the range that is told, a `RangeError`; and what the database has
- * no answer to a {@link BearoffError}, whose `code` is told at each call. Every call on a database that was closed has the
+ * `TypeError`; a number that isn't whole, or is out of the range that is told, or a move that can't be made, a `RangeError`;
+ * a text that is no position a `NoRaceError` of `bearoff/notation`; and what the database has no answer to a
+ * {@link BearoffError}, whose `code` is told at each call. Every call on a database that was closed has the
  * code `not-open`. A call that could be refused for several reasons tells the first of these: the first argument that is
  * none of what is taken, `not-open`, `bad-roll`, `too-many` of any position, `over-bound` and `finished` of the first one,
  * `not-legal`. A call that was refused changes nothing.
@@ -34,8 +35,23 @@ export type Position = readonly number[] | Uint8Array;
 /** Six counts, the ace point first, in a list of the caller's own. */
 export type Counts = [number, number, number, number, number, number];
 
+/**
+ * What is taken as a position: six counts, a text that `read` of `bearoff/notation` takes, as an XGID, or the race that it
+ * makes of one, of which it is the position of the player on roll.
+ */
+export type AnyPosition = Position | string | { readonly mine: Position };
+
 /** The two dice of a roll, in either order, 1 to 6 each. */
 export type Roll = readonly [number, number] | Uint8Array;
+
+/** What is taken as a roll: its two dice, also as a text like `21` or `2-1`, or the number 21. */
+export type AnyRoll = Roll | string | number;
+
+/**
+ * What is taken as a play: the position that it leads to, a {@link Play}, a {@link Choice}, or its moves as a player writes
+ * them, as in `4/2 2/1`, `6/off(2)` or `6/4/3`.
+ */
+export type AnyPlay = AnyPosition | { readonly to: Position };
 
 /** An exact number. The denominator is not 0. */
 export interface Fraction {
@@ -72,10 +88,12 @@ export interface Move {
     readonly to: number;
 }
 
-/** A play: its 1 to 4 moves in the order in which they are made, and the position that it leads to. */
+/** A play: its 1 to 4 moves in the order in which they are made, the position that it leads to, and the moves as a text. */
 export interface Play {
     readonly moves: Move[];
     readonly to: Counts;
+    /** The moves as a player writes them: `4/2 2/1`, and `6/off` where a checker is borne off. */
+    readonly text: string;
 }
 
 /**
@@ -239,36 +257,36 @@ export class Bearoff {
      * The least mean number of rolls until all checkers are off, over all strategies. Refused as `too-many` or
      * `over-bound`, as is every call below that says so by "a position of the database".
      */
-    mean(position: Position): Rounded;
+    mean(position: AnyPosition): Rounded;
 
     /** The effective pip count of a position of the database, in pips: 49/6 for each roll of the mean. */
-    epc(position: Position): Rounded;
+    epc(position: AnyPosition): Rounded;
 
     /**
      * The effective pip count of a position of the database less its pip count, in pips. It is 0 where no checker is left,
      * and more of every other position of the home board.
      */
-    wastage(position: Position): Rounded;
+    wastage(position: AnyPosition): Rounded;
 
     /**
      * The chances of being off in exactly 0 to 22 rolls, from a position of the database by the recorded plays: 23
      * fractions over 36^22, whose numerators add up to 36^22. Of a board file they are 34, to 33 rolls, over 36^33.
      */
-    distribution(position: Position): Exact[];
+    distribution(position: AnyPosition): Exact[];
 
     /**
      * The chance of being off within a number of rolls, 0 or more, from a position of the database by the recorded plays.
      */
-    within(position: Position, rolls: number): Rounded;
+    within(position: AnyPosition, rolls: number): Rounded;
 
     /** What any position of at most 15 checkers stands at. Refused as `too-many`. */
-    standing(position: Position): Standing;
+    standing(position: AnyPosition): Standing;
 
     /**
      * How many positions are before a position of the database: those of fewer pips, and of as many pips those with the
      * smaller counts, that of the ace point first.
      */
-    rank(position: Position): number;
+    rank(position: AnyPosition): number;
 
     /** The position of a rank, 0 or more. Refused as `no-rank`. */
     position(rank: number): Counts;
@@ -277,25 +295,33 @@ export class Bearoff {
      * The recorded play of a roll from a position of the database. No play has a smaller mean; there may be others as good.
      * Refused as `bad-roll` too, and as `finished` where no checker is left.
      */
-    play(position: Position, roll: Roll): Play;
+    play(position: AnyPosition, roll: AnyRoll): Play;
 
     /**
      * The first play of a roll that leads from one position of at most 15 checkers to another. Refused as `bad-roll`,
      * `too-many` or `not-legal`.
      */
-    playTo(position: Position, roll: Roll, to: Position): Play;
+    playTo(position: AnyPosition, roll: AnyRoll, to: AnyPlay): Play;
 
     /**
      * What a play to the position `to` costs, in rolls and in lowest terms, beside the best one. Refused as `play` is, and as
      * `not-legal`.
      */
-    loss(position: Position, roll: Roll, to: Position): Exact;
+    loss(position: AnyPosition, roll: AnyRoll, to: AnyPlay): Exact;
 
     /**
      * Every position that a roll can lead to from a position of the database, once, at most 127, the best first, and of
      * those that cost as much that of the lower rank. Refused as `play` is.
      */
-    moves(position: Position, roll: Roll): Choice[];
+    moves(position: AnyPosition, roll: AnyRoll): Choice[];
+
+    /**
+     * The chance that `mine` is off before `theirs`, where the players roll in turn and both make the recorded plays. `mine`
+     * rolls first, unless `onRoll` is `theirs`. Where `theirs` is missing both sides are those of one XGID, Position ID or
+     * race; a `TypeError` where that doesn't tell them. It is exact of these plays, which take the fewest rolls in the mean,
+     * and are no plays for the win; and it says nothing of the cube.
+     */
+    wins(mine: AnyPosition, theirs?: AnyPosition | null, onRoll?: "mine" | "theirs"): Exact;
 
     /**
      * What `bearoff query` writes for a line, as `mean 0,0,0,0,0,1`, without a line ending: `mean POSITION`, `dist

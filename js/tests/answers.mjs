@@ -4,6 +4,7 @@ import { bytesOf, end, equal, FILES, linesOf, partOf, textOf, wrong } from "./gi
 import { isNearest, nearest, number, walked, written } from "./written.mjs";
 
 const { Bearoff, BearoffError, asDoubles, asNumber } = await partOf("bearoff.js");
+const { read } = await partOf("notation.js");
 const { version } = JSON.parse(textOf("package.json"));
 const WHOLE = 36n ** 22n;
 const REFUSED = ["too-many", "over-bound", "finished", "not-legal"];
@@ -64,6 +65,55 @@ function comparePosition(database, name, position) {
     }
 }
 
+// A text, or what was answered, stands for a list.
+function compareTexts(database) {
+    const xgid = "XGID=-ABC--D------------a-b--c-:0:0:1:21:0:0:0:0:10";
+    const [mine, theirs] = [[1, 2, 3, 0, 0, 4], [3, 0, 0, 2, 0, 1]];
+    const same = (name, is, wanted) => equal(name, JSON.stringify(is), JSON.stringify(wanted));
+    for (const call of ["mean", "epc", "wastage", "distribution", "standing", "rank"]) {
+        for (const text of [xgid, read(xgid), "1,2,3,0,0,4", " 1 2 3 0 0 4"]) same(`${call} of a text`, database[call](text), database[call](mine));
+    }
+    same("within of a text", database.within(xgid, 5), database.within(mine, 5));
+    const [play, moves] = [database.play(mine, [2, 1]), database.moves(mine, [2, 1])];
+    for (const roll of ["21", "1-2", " 2, 1 ", 21, 12]) {
+        same(`a play of ${roll}`, database.play(xgid, roll), play);
+        same(`the moves of ${roll}`, database.moves(xgid, roll), moves);
+    }
+    equal("a play as a text", play.text, "2/off 1/off");
+    for (const choice of moves) {
+        const one = database.playTo(mine, "21", choice);
+        for (const to of [choice, one, one.text, choice.to.join(), choice.to]) same(`what ${one.text} costs`, database.loss(xgid, "21", to), choice.loss);
+        same(`how to play ${one.text}`, database.playTo(xgid, 21, one.text), one);
+    }
+    // moves in another order, through a point, and of several checkers at once
+    for (const [position, roll, text, to] of [
+        ["0,0,0,1,0,0", 21, "2/1 4/2", [1, 0, 0, 0, 0, 0]], ["0,0,0,0,0,2", 11, "6/5/4(2)", [0, 0, 0, 2, 0, 0]], ["2,0,0,0,0,0", 66, "1/OFF(2)", [0, 0, 0, 0, 0, 0]],
+    ]) same(text, database.playTo(position, roll, text).to, to);
+    for (const [text, kind] of [["6/off 6/off 6/off 6/off 6/off", "malformed"], ["5/4", "RangeError"], ["1/2", "RangeError"], ["bar/6", "malformed"], ["", "malformed"]]) {
+        let told = "none";
+        try {
+            database.loss(mine, 21, text);
+        } catch (error) {
+            told = error.code ?? error.constructor.name;
+        }
+        equal(`the play ${text}`, told, kind);
+    }
+    // one checker on the six point is off in one roll with 3/4; from the ace point always
+    const wins = [[database.wins(xgid), database.wins(mine, theirs)], [database.wins([0, 0, 0, 0, 0, 1], "0,0,0,0,0,1"), "13/16"],
+        [database.wins("0,0,0,0,0,1", "1,0,0,0,0,0"), "3/4"], [database.wins("1,0,0,0,0,0", "0,0,0,0,0,1", "theirs"), "1/4"]];
+    for (const [is, wanted] of wins) equal("who is off first", `${is}`, `${wanted}`);
+    equal("both sides", (Number(database.wins(mine, theirs)) + Number(database.wins(theirs, mine, "theirs"))).toFixed(12), "1.000000000000");
+    for (const words of [[mine], ["1,2,3,0,0,4"], [mine, theirs, "top"], [mine, theirs, null]]) {
+        let told = "none";
+        try {
+            database.wins(...words);
+        } catch (error) {
+            told = error.constructor.name;
+        }
+        equal("wins of one side, or of nobody's turn", told, "TypeError");
+    }
+}
+
 // Of each bound the position from which a double one leads to more results than any other roll of any position does.
 const LONGEST = { 44: ["4,2,2,2,2,2", 100], 58: ["3,3,2,2,2,3", 108] };
 
@@ -117,6 +167,7 @@ for (const bound of process.argv.length > 5 ? process.argv.slice(5).map(Number) 
     equal("the version of the library", built.libraryVersion, version);
     built.close();
     const database = await Bearoff.open(file);
+    if (bound > 8) compareTexts(database);
     const asked = compareLines(database, bound);
     for (const text of bound === 8 ? asked : [...asked].slice(0, 100)) comparePosition(database, text, number(text));
     compareTables(database, bound, asked);

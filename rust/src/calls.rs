@@ -116,6 +116,9 @@ type At = *const Opened;
 /// A call that says something of a position.
 pub type OfPosition<T> = unsafe extern "C" fn(At, *const Counts, *mut T) -> u32;
 
+/// A call that lists something of the ranks from a first one on.
+pub type OfRanks<T> = unsafe extern "C" fn(At, u16, *mut T, usize) -> u32;
+
 extern "C" {
     pub fn bearoff_library_version(major: *mut u16, minor: *mut u16, patch: *mut u16) -> u32;
     pub fn bearoff_status_text(status: u32, text: *mut u8, room: usize, needed: *mut usize) -> u32;
@@ -147,6 +150,16 @@ extern "C" {
     ) -> u32;
     pub fn bearoff_about(at: At, about: *mut About) -> u32;
     pub fn bearoff_rank(at: At, of: *const Counts, rank: *mut u16) -> u32;
+    pub fn bearoff_position_of(at: At, rank: u16, of: *mut Counts) -> u32;
+    pub fn bearoff_listed_positions(at: At, first: u16, to: *mut Counts, count: usize) -> u32;
+    pub fn bearoff_listed_means(at: At, first: u16, to: *mut Words, count: usize) -> u32;
+    pub fn bearoff_listed_epcs(at: At, first: u16, to: *mut Pips, count: usize) -> u32;
+    pub fn bearoff_listed_distributions(
+        at: At,
+        first: u16,
+        to: *mut [Words; 34],
+        count: usize,
+    ) -> u32;
     pub fn bearoff_mean(at: At, of: *const Counts, mean: *mut Words) -> u32;
     pub fn bearoff_epc(at: At, of: *const Counts, pips: *mut Pips) -> u32;
     pub fn bearoff_wastage(at: At, of: *const Counts, wastage: *mut Wasted) -> u32;

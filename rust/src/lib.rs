@@ -32,6 +32,9 @@ pub use fraction::{Fraction, Whole};
 
 use std::borrow::Cow;
 use std::fmt;
+use std::fs::File;
+use std::io::{self, Read};
+use std::path::{Path, PathBuf};
 use std::str::FromStr;
 use std::thread;
 
@@ -52,6 +55,58 @@ impl Position {
 
     fn counts(self) -> calls::Counts {
         calls::Counts { points: self.points }
+    }
+
+    /// The position that moves lead to, as a player writes them: `4/2 2/1`, `6/off(2)` or `6/4/3`,
+    /// in any order. Whether a roll plays so isn't asked: that [`Database::loss`] and [`play_to`]
+    /// tell. Refused as [`Error::BadPlay`] where they are no moves, or a checker is missing.
+    pub fn after(self, moves: &str) -> Result<Position, Error> {
+        moved(self, moves).ok_or(Error::BadPlay)
+    }
+}
+
+fn moved(position: Position, moves: &str) -> Option<Position> {
+    let mut board = [0i32; 7];
+    for (place, count) in board[1..].iter_mut().zip(position.points) {
+        *place = i32::from(count);
+    }
+    let words: Vec<&str> = moves.split_ascii_whitespace().collect();
+    if words.is_empty() || moves.matches('/').count() > MOST_MOVES {
+        return None;
+    }
+    for word in words {
+        let (path, times) = match word.strip_suffix(')').and_then(|it| it.rsplit_once('(')) {
+            Some((path, times @ ("1" | "2" | "3" | "4"))) => (path, times.parse().ok()?),
+            Some(_) => return None,
+            None => (word, 1),
+        };
+        let points: Option<Vec<usize>> = path.split('/').map(point).collect();
+        let points = points.filter(|it| it.len() > 1)?;
+        for step in points.windows(2) {
+            if step[1] >= step[0] {
+                return None;
+            }
+            board[step[0]] -= times;
+            board[step[1]] += times;
+        }
+    }
+    let mut points = [0; 6];
+    for (point, count) in points.iter_mut().zip(&board[1..]) {
+        *point = u8::try_from(*count).ok()?;
+    }
+    Some(Position::new(points))
+}
+
+/// How many moves a roll has at most.
+const MOST_MOVES: usize = 4;
+
+/// A point of the home board, or where checkers are borne off.
+fn point(text: &str) -> Option<usize> {
+    match text {
+        "0" => Some(0),
+        _ if text.eq_ignore_ascii_case("off") => Some(0),
+        "1" | "2" | "3" | "4" | "5" | "6" => text.parse().ok(),
+        _ => None,
     }
 }
 
@@ -98,6 +153,28 @@ impl Roll {
     /// The roll of two dice.
     pub const fn new(one: u8, other: u8) -> Roll {
         Roll { one, other }
+    }
+}
+
+/// Two dice, as in `21` or `2-1`. Whether a die is 1 to 6 is told where the roll is played.
+impl FromStr for Roll {
+    type Err = Error;
+
+    fn from_str(text: &str) -> Result<Roll, Error> {
+        match text.as_bytes() {
+            &[one @ b'0'..=b'9', other @ b'0'..=b'9']
+            | &[one @ b'0'..=b'9', b'-', other @ b'0'..=b'9'] => {
+                Ok(Roll::new(one - b'0', other - b'0'))
+            }
+            _ => Err(Error::BadRoll),
+        }
+    }
+}
+
+/// As `21`.
+impl fmt::Display for Roll {
+    fn fmt(&self, formatter: &mut fmt::Formatter<'_>) -> fmt::Result {
+        formatter.pad(&format!("{}{}", self.one, self.other))
     }
 }
 
@@ -176,9 +253,21 @@ pub enum Error {
     },
     /// The text is not six counts with commas between them.
     BadText,
+    /// The text is not two dice, as in `21` or `2-1`.
+    BadRoll,
+    /// The text is no moves, as in `4/2 2/1`, or none that can be made from the position.
+    BadPlay,
+    /// The file can't be read.
+    Unreadable {
+        /// Where it is.
+        path: PathBuf,
+        /// Why.
+        kind: io::ErrorKind,
+    },
     /// The library has no answer, by its status: 2 where a die is not 1 to 6, 3 of more than 15
     /// checkers, 4 of more pips than the bound, 5 where no checker is left, 6 where the roll
-    /// doesn't lead there, 9 where a file that is to be upgraded is not of version 1.
+    /// doesn't lead there, 9 where a file that is to be upgraded is not of version 1, 10 where
+    /// there is no position of that rank.
     Refused {
         /// The status of the library.
         status: u32,
@@ -192,6 +281,11 @@ impl fmt::Display for Error {
         match self {
             Error::Damaged { line, .. } => write!(formatter, "no right database: {}", line),
             Error::BadText => formatter.write_str("not six counts with commas between them"),
+            Error::BadRoll => formatter.write_str("not two dice, as in 21 or 2-1"),
+            Error::BadPlay => formatter.write_str("no moves that can be made, as in 4/2 2/1"),
+            Error::Unreadable { path, kind } => {
+                write!(formatter, "{} can't be read: {}", path.display(), io::Error::from(*kind))
+            }
             Error::Refused { status } => formatter.write_str(&status_text(*status)),
             Error::NoThread => formatter.write_str("there is no thread to open a database in"),
         }
@@ -297,8 +391,8 @@ impl<'a> Database<'a> {
         self.about.bound
     }
 
-    /// How many positions it has: those of at most its bound.
-    pub fn positions(&self) -> u32 {
+    /// How many positions it has: those of at most its bound. Their ranks are 0 to one less.
+    pub fn position_count(&self) -> u32 {
         self.about.positions
     }
 
@@ -405,6 +499,49 @@ impl<'a> Database<'a> {
         self.asked(0, position, calls::bearoff_rank)
     }
 
+    /// The position of a rank. Refused where the file has none of that rank.
+    pub fn position(&self, rank: u16) -> Result<Position, Error> {
+        let at = self.at();
+        let told = answered(calls::Counts::default(), |it| unsafe {
+            calls::bearoff_position_of(at, rank, it)
+        })?;
+        Ok(Position::new(told.points))
+    }
+
+    /// All positions, by rising rank.
+    pub fn positions(&self) -> Result<Vec<Position>, Error> {
+        let all = self.listed(calls::Counts::default(), calls::bearoff_listed_positions)?;
+        Ok(all.into_iter().map(|it| Position::new(it.points)).collect())
+    }
+
+    /// The means of all positions, by rising rank.
+    pub fn means(&self) -> Result<Vec<Fraction>, Error> {
+        let all = self.listed([0; 3], calls::bearoff_listed_means)?;
+        Ok(all.into_iter().map(|mean| self.over_whole(mean)).collect())
+    }
+
+    /// The effective pip counts of all positions, by rising rank.
+    pub fn epcs(&self) -> Result<Vec<EffectivePips>, Error> {
+        let all = self.listed(calls::Pips::default(), calls::bearoff_listed_epcs)?;
+        Ok(all.into_iter().map(EffectivePips::from).collect())
+    }
+
+    /// The distributions of all positions, by rising rank, each as [`Database::distribution`]
+    /// tells it: numerators over [`Database::whole`], 23 for each position or, of a board file, 34.
+    pub fn distributions(&self) -> Result<Vec<Vec<Whole>>, Error> {
+        let all = self.listed([[0; 3]; 34], calls::bearoff_listed_distributions)?;
+        let count = usize::from(self.about.rolls) + 1;
+        Ok(all.iter().map(|row| row[..count].iter().map(|it| Whole(*it)).collect()).collect())
+    }
+
+    /// What a call lists of all ranks.
+    fn listed<T: Clone>(&self, none: T, call: calls::OfRanks<T>) -> Result<Vec<T>, Error> {
+        let mut all = vec![none; self.about.positions as usize];
+        // there is room for each position of the file
+        told(unsafe { call(self.at(), 0, all.as_mut_ptr(), all.len()) })?;
+        Ok(all)
+    }
+
     /// The bytes of a file of version 2 that says the same. Refused where its own is of version 2
     /// already, or a board file.
     pub fn upgrade(&self) -> Result<Vec<u8>, Error> {
@@ -426,6 +563,18 @@ impl<'a> Database<'a> {
 }
 
 impl Database<'static> {
+    /// Opens the file at a path, as [`Database::open`] its bytes. Of a file that is longer than any
+    /// right one no more is read.
+    pub fn open_path(path: impl AsRef<Path>) -> Result<Database<'static>, Error> {
+        let path = path.as_ref();
+        let mut bytes = Vec::new();
+        let read = |file: File| file.take(calls::FILE as u64 + 1).read_to_end(&mut bytes);
+        File::open(path)
+            .and_then(read)
+            .map_err(|error| Error::Unreadable { path: path.into(), kind: error.kind() })?;
+        Database::open(bytes)
+    }
+
     /// Builds the database of a pip bound, 0 to 58, or the board file of one of 59 to 90, and checks
     /// it: some tenths of a second. Refused where the bound is over 90.
     pub fn build(bound: u8) -> Result<Database<'static>, Error> {
@@ -454,7 +603,7 @@ impl fmt::Debug for Database<'_> {
     fn fmt(&self, formatter: &mut fmt::Formatter<'_>) -> fmt::Result {
         let mut shown = formatter.debug_struct("Database");
         shown.field("version", &self.version()).field("bound", &self.bound());
-        shown.field("positions", &self.positions()).finish()
+        shown.field("positions", &self.position_count()).finish()
     }
 }
 

@@ -110,16 +110,92 @@ fn of_each_roll_what_its_lines_say() {
 }
 
 #[test]
+fn of_all_positions_what_each_says() {
+    for database in files() {
+        let every = database.positions().unwrap();
+        assert_eq!(every.len(), database.position_count() as usize);
+        let (means, epcs) = (database.means().unwrap(), database.epcs().unwrap());
+        let distributions = database.distributions().unwrap();
+        // each of 64, and of a board file one in a hundred or so
+        for (rank, position) in every.iter().enumerate().step_by(1 + every.len() / 400) {
+            assert_eq!(database.rank(*position), Ok(rank as u16));
+            assert_eq!(database.position(rank as u16), Ok(*position));
+            assert_eq!(database.mean(*position), Ok(means[rank]));
+            assert_eq!(database.epc(*position), Ok(epcs[rank]));
+            let shares = database.distribution(*position).unwrap();
+            assert_eq!(shares.len(), distributions[rank].len());
+            for (share, numerator) in shares.iter().zip(&distributions[rank]) {
+                let chance = numerator.as_f64() / database.whole().as_f64();
+                assert!((share.as_f64() - chance).abs() < 1e-15);
+            }
+        }
+        assert_eq!(database.position(every.len() as u16), Err(Error::Refused { status: 10 }));
+    }
+}
+
+#[test]
+fn rolls_and_plays_from_texts() {
+    for (text, roll) in [("21", Roll::new(2, 1)), ("1-2", Roll::new(1, 2)), ("07", Roll::new(0, 7))] {
+        assert_eq!(text.parse(), Ok(roll));
+    }
+    assert_eq!(Roll::new(2, 1).to_string(), "21");
+    for text in ["", "2", "211", "2--1", " 21", "+2", "2,1", "\u{662}1"] {
+        assert_eq!(text.parse::<Roll>(), Err(Error::BadRoll));
+    }
+    let from = |text: &str, moves: &str| text.parse::<Position>().unwrap().after(moves);
+    for (position, moves, to) in [
+        ("0,0,0,2,0,0", "4/2 2/1", "1,0,0,1,0,0"),
+        ("0,0,0,1,0,0", "2/1 4/2", "1,0,0,0,0,0"),
+        ("0,0,0,0,0,2", "6/5/4(2)", "0,0,0,2,0,0"),
+        ("2,0,0,0,0,0", " 1/OFF(2) ", "0,0,0,0,0,0"),
+        ("0,0,0,0,0,1", "6/0", "0,0,0,0,0,0"),
+    ] {
+        assert_eq!(from(position, moves).unwrap().to_string(), to);
+    }
+    for moves in
+        ["", "6", "6/", "/5", "6/5/", "5/6", "6/6", "7/6", "5/4", "6/5(0)", "6/5(5)", "6/5()", "x"]
+    {
+        assert_eq!(from("0,0,0,0,0,1", moves), Err(Error::BadPlay), "{}", moves);
+    }
+    assert_eq!(from("5,0,0,0,0,0", "1/0 1/0 1/0 1/0 1/0"), Err(Error::BadPlay));
+    let database = Database::build(8).unwrap();
+    for position in positions(8) {
+        for roll in rolls() {
+            for choice in database.moves(position, roll).unwrap_or_default() {
+                let play = play_to(position, roll, choice.to).unwrap();
+                assert_eq!(position.after(&play.to_string()), Ok(play.to));
+            }
+        }
+    }
+}
+
+#[test]
+fn a_file_at_a_path() {
+    let folder = std::env::temp_dir().join(format!("bearoff-{}", std::process::id()));
+    std::fs::create_dir(&folder).unwrap();
+    let (path, none) = (folder.join("race.db"), folder.join("none"));
+    let built = Database::build(8).unwrap();
+    std::fs::write(&path, built.bytes()).unwrap();
+    let opened = Database::open_path(&path).unwrap();
+    let told = [Database::open_path(&none).map(|_| ()), Database::open_path(&folder).map(|_| ())];
+    std::fs::remove_dir_all(&folder).unwrap();
+    assert_eq!(opened.bytes(), built.bytes());
+    for error in told {
+        assert!(matches!(error, Err(Error::Unreadable { .. })), "{:?}", error);
+    }
+}
+
+#[test]
 fn what_a_file_is() {
     let [database, board] = files();
-    assert_eq!((database.version(), database.bound(), database.positions()), (1, 8, 64));
+    assert_eq!((database.version(), database.bound(), database.position_count()), (1, 8, 64));
     assert_eq!((board.version(), board.bound()), (3, 60));
     assert_eq!(database.whole().to_string(), "17324272922341479351919144385642496");
     assert!((board.whole().as_f64() / 36f64.powi(33) - 1.0).abs() < 1e-12);
     assert_eq!(library_version(), env!("CARGO_PKG_VERSION"));
     assert_eq!(format!("{:?}", database), "Database { version: 1, bound: 8, positions: 64 }");
     let new = Database::open(database.upgrade().unwrap()).unwrap();
-    assert_eq!((new.version(), new.positions()), (2, 64));
+    assert_eq!((new.version(), new.position_count()), (2, 64));
     for other in [&new, &board] {
         assert_eq!(
             other.upgrade(),
@@ -154,7 +230,7 @@ fn bytes_that_are_lent_or_owned() {
 #[test]
 fn a_thread_with_little_stack() {
     let thread = std::thread::Builder::new().stack_size(128 << 10);
-    let run = || Database::build(12).unwrap().positions();
+    let run = || Database::build(12).unwrap().position_count();
     assert_eq!(thread.spawn(run).unwrap().join().unwrap(), 227);
 }
 

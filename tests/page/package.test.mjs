@@ -27,7 +27,7 @@ const TYPED = "XGID=-C--B-A------------d--cba-:0:0:-1:21:0:0:0:0:10 AAAA2vEAAAAA
 const BELONGS = [
     "README.md", "package.json", "wide.wasm", "narrow.wasm",
     ...["bearoff", "notation"].flatMap((name) => [`${name}.js`, `${name}.d.ts`, `${name}.d.cts`]),
-    ...["abilities", "checks", "database", "engine", "errors", "fractions", "kinds", "modules", "numbers"]
+    ...["abilities", "checks", "database", "engine", "errors", "fractions", "given", "kinds", "modules", "numbers"]
         .map((name) => `${name}.js`),
 ].sort();
 const PRINTED = "1.250 rolls, 10.208 pips\n4/2 2/1\n";
