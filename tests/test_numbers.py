@@ -76,10 +76,6 @@ def lowest(numerator, denominator):
     return *wide(numerator // common), *wide(denominator // common)
 
 
-def of_bytes(data, front):
-    return int.from_bytes(data[:front], "big"), int.from_bytes(data[front:], "big")
-
-
 def sums(chance, most):
     """Which of three numbers each roll leads to, now and then one for all rolls, whose sum is then
     a multiple of 36; and the numbers."""
@@ -180,58 +176,6 @@ class Fractions:
         return None if mean is None else (*lowest(mean, WHOLE), *lowest(49 * mean, 6 * WHOLE))
 
 
-class MeanBytes:
-    """The bytes of a number."""
-
-    def given(chance):
-        return any_parts(chance, MOST)
-
-    def reply(given):
-        if told(given, MOST) is None:
-            return None
-        return given[0].to_bytes(16, "big") + given[1].to_bytes(8, "big")
-
-
-class MeanOf:
-    """The number of some bytes."""
-
-    def given(chance):
-        upper, lower = any_parts(chance, MOST)
-        return upper.to_bytes(16, "big") + lower.to_bytes(8, "big")
-
-    def reply(given):
-        return parts_or_none(told(of_bytes(bytes(given), 16), MOST))
-
-
-class Short:
-    """A sum of counts of 11 throws, in two parts, and in one word where it has room."""
-
-    def given(chance):
-        numbers = [any_number(chance, PART) for _ in range(3)]
-        if chance.random() < 0.1:
-            numbers[0] = chance.choice([PART + 1, 2**64 - 1])
-        return [chance.randrange(3**21), *numbers]
-
-    def reply(given):
-        if max(given[1:]) > PART:
-            return None
-        total = weighted(given[0], given[1:])
-        return *parts(total), *([total] if total <= PART else [])
-
-
-class Middle:
-    """The same of 22 throws."""
-
-    def given(chance):
-        return sums(chance, 36**22)
-
-    def reply(given):
-        total = sum_of(given, 36**22)
-        if total is None:
-            return None
-        return *parts(total), *(parts(total) if total <= 36**22 else [])
-
-
 class Long:
     """The same of 33 throws."""
 
@@ -241,91 +185,6 @@ class Long:
     def reply(given):
         total = sum_of(given, WHOLE)
         return None if total is None or total > WHOLE else parts(total)
-
-
-class ShortBytes:
-    """The bytes of a count of 11 throws."""
-
-    def given(chance):
-        return [any_number(chance, PART)]
-
-    def reply(given):
-        return given[0].to_bytes(8, "big")
-
-
-class MiddleBytes:
-    """The bytes of a count of 22 throws."""
-
-    def given(chance):
-        return any_parts(chance, 36**22)
-
-    def reply(given):
-        if told(given, 36**22) is None:
-            return None
-        return given[0].to_bytes(8, "big") + given[1].to_bytes(8, "big")
-
-
-class LongBytes:
-    """The bytes of a count of 33 throws."""
-
-    def given(chance):
-        return any_parts(chance, WHOLE)
-
-    def reply(given):
-        return None if told(given, WHOLE) is None else MeanBytes.reply(given)
-
-
-class CountOf:
-    """The count of so many throws that some bytes hold."""
-
-    def given(chance):
-        k = chance.randrange(34)
-        upper, lower = any_parts(chance, 36**k)
-        if k < 12:
-            return [k, *min(upper * PART + lower, 2**64 - 1).to_bytes(8, "big")]
-        front = 8 if k < 23 else 16
-        upper = min(upper, 2 ** (8 * front) - 1)
-        return [k, *upper.to_bytes(front, "big"), *lower.to_bytes(8, "big")]
-
-    def reply(given):
-        k, data = given[0], bytes(given[1:])
-        if k < 12:
-            number = int.from_bytes(data, "big")
-            return parts(number) if number <= 36**k else None
-        return parts_or_none(told(of_bytes(data, len(data) - 8), 36**k))
-
-
-class Then:
-    """What has ended within one throw more."""
-
-    def given(chance):
-        first = any_number(chance, chance.choice([WHOLE, WHOLE // 36]))
-        return [*parts(first), *any_parts(chance, WHOLE)]
-
-    def reply(given):
-        first, second = told(given[:2], WHOLE), told(given[2:], WHOLE)
-        if None in (first, second) or 36 * first + second > WHOLE:
-            return None
-        return parts(36 * first + second)
-
-
-class Ended:
-    """What has ended within some throws."""
-
-    def given(chance):
-        counts, left = [], WHOLE
-        for k in range(chance.randrange(35)):
-            counts.append(any_number(chance, min(left, 36**k)))
-            left = max(0, left - counts[-1] * 36 ** (33 - k))
-            left = left // 36 ** (32 - k) if k < 33 else 0
-            left = left if chance.random() < 0.99 else WHOLE
-        return [*itertools.chain(*map(parts, counts))]
-
-    def reply(given):
-        ended = 0
-        for upper, lower in zip(given[::2], given[1::2]):
-            ended = 36 * ended + upper * PART + lower
-        return parts(ended) if ended <= WHOLE else None
 
 
 class Share:
@@ -348,17 +207,7 @@ KINDS = {
     "minus": Minus,
     "rounded": Rounded,
     "fractions": Fractions,
-    "mean_bytes": MeanBytes,
-    "mean_of": MeanOf,
-    "short": Short,
-    "middle": Middle,
     "long": Long,
-    "short_bytes": ShortBytes,
-    "middle_bytes": MiddleBytes,
-    "long_bytes": LongBytes,
-    "count_of": CountOf,
-    "then": Then,
-    "ended": Ended,
     "share": Share,
 }
 
@@ -420,35 +269,19 @@ TWO_PARTS = [
 ]
 
 
-@pytest.mark.parametrize("word", ["rounded", "fractions", "mean_bytes", "long_bytes"])
+@pytest.mark.parametrize("word", ["rounded", "fractions"])
 def test_edges_of_a_number(number_trials, word):
     compare(number_trials, word, TWO_PARTS)
 
 
-@pytest.mark.parametrize("word", ["order", "minus", "then"])
+@pytest.mark.parametrize("word", ["order", "minus"])
 def test_edges_of_two_numbers(number_trials, word):
     compare(number_trials, word, [[*a, *b] for a in TWO_PARTS for b in TWO_PARTS])
 
 
-@pytest.mark.parametrize("word", ["mean", "middle", "long"])
+@pytest.mark.parametrize("word", ["mean", "long"])
 def test_edges_of_sums(number_trials, word):
     """All rolls lead to one number, or some to another one."""
     choices = (0, 3**21 // 2, 3**20, 1)
-    parts = [(upper, lower) for upper, lower in TWO_PARTS if word != "middle" or upper < 2**64]
-    lines = [[which, *a, *b, *b] for which in choices for a in parts for b in parts]
+    lines = [[which, *a, *b, *b] for which in choices for a in TWO_PARTS for b in TWO_PARTS]
     compare(number_trials, word, lines)
-
-
-def test_edges_of_counts(number_trials):
-    """Each count to 33 throws at and over its range, as bytes."""
-    lines = []
-    for k in range(34):
-        for number in (0, 36**k - 1, 36**k, 36**k + 1, 36**k + PART, 36 * 36**k):
-            if k < 12:
-                lines.append([k, *number.to_bytes(8, "big")])
-                continue
-            front = 8 if k < 23 else 16
-            for upper, lower in (parts(number), (number // PART - 1, number % PART + PART)):
-                if 0 <= upper < 2 ** (8 * front):
-                    lines.append([k, *upper.to_bytes(front, "big"), *lower.to_bytes(8, "big")])
-    compare(number_trials, "count_of", lines)

@@ -4,4 +4,4 @@
 
 mod words;
 
-pub use words::{FileKind, Request, WHOLE_BOARD, read_words};
+pub use words::{FileKind, Request, read_words};

@@ -18,7 +18,7 @@ use std::alloc::{AllocError, Global};
 use std::convert::AsStr;
 
 /// The pip bound of the whole home board.
-pub const WHOLE_BOARD: u8 = 90;
+const WHOLE_BOARD: u8 = 90;
 
 /// The kinds of file that a command is given.
 #[derive(Clone, Copy, Debug, PartialEq, Eq)]

@@ -21,7 +21,7 @@ const STARTS: [u32; 91] = [
 
 /// Where the records from a rank on begin, which is that of a position of so many pips, or the
 /// next one.
-pub fn board_offset(pips: u8, rank: u16) -> usize
+pub(crate) fn board_offset(pips: u8, rank: u16) -> usize
     requires low { pips ≤ 90 }
     requires from { first_of pips ≤ rank }
     requires beyond { rank ≤ first_of (pips + 1) }

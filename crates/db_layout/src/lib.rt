@@ -8,22 +8,18 @@
 
 pub use board_header::{BoardHeader, BoardPlace, parse_board_header};
 pub use board_numbers::{count_of, mean_of};
-pub use board_places::{board_length, board_offset, count_place};
+pub use board_places::{board_length, count_place};
 pub use board_record::{BoardRecord, Parts};
 pub use board_words::{WORDS, word_sums};
 pub use board_writing::{put_count, put_mean, put_plays};
 pub use header::{Header, HeaderFault, parse_header};
 pub use lower_records::{LowerRecords, leading_bits};
 pub use places::{Place, most_rolls, offset_of, record_length};
-pub use record::{
-    HEADER_BYTES, RECORD_BYTES, RecordView, read_long, read_short, read_wide, read_word,
-};
-pub use stated::{BOARD_BOUND, BOARD_VERSION, COMPACT_VERSION, MAGIC, VERSION};
+pub use record::{HEADER_BYTES, RECORD_BYTES, RecordView, read_short};
+pub use stated::{BOARD_BOUND, BOARD_VERSION, COMPACT_VERSION, VERSION};
 pub use stored_shares::StoredShares;
 pub use write_fault::WriteFault;
-pub use writing::{
-    header_bytes, law_record, record_bytes, write_bytes, write_header, write_record,
-};
+pub use writing::{header_bytes, record_bytes, write_bytes, write_header, write_record};
 
 pub mod board_header;
 pub mod board_numbers;

@@ -172,7 +172,7 @@ fn read_share(bytes: &[u8], place: u8) -> u128
 }
 
 /// The number in the 16 bytes from a place on, high byte first.
-pub fn read_wide(bytes: &[u8], place: usize) -> u128
+pub(crate) fn read_wide(bytes: &[u8], place: usize) -> u128
     requires { place + 16 ≤ length bytes.now }
     ensures { result ≡ from_be_bytes w128 (bytes_at bytes.now place 16) }
 {
@@ -194,7 +194,7 @@ pub fn read_short(bytes: &[u8], place: usize) -> u16
 }
 
 /// The number in the 4 bytes from a place on, high byte first.
-pub fn read_word(bytes: &[u8], place: usize) -> u32
+pub(crate) fn read_word(bytes: &[u8], place: usize) -> u32
     requires { place + 4 ≤ length bytes.now }
     ensures { result ≡ from_be_bytes w32 (bytes_at bytes.now place 4) }
 {
@@ -205,7 +205,7 @@ pub fn read_word(bytes: &[u8], place: usize) -> u32
 }
 
 /// The number in the 8 bytes from a place on, high byte first.
-pub fn read_long(bytes: &[u8], place: usize) -> u64
+pub(crate) fn read_long(bytes: &[u8], place: usize) -> u64
     requires { place + 8 ≤ length bytes.now }
     ensures { result ≡ from_be_bytes w64 (bytes_at bytes.now place 8) }
 {

@@ -13,7 +13,7 @@ use crate::record::{HEADER_BYTES, read_short, read_word};
 use home_board::{MAX_BOUND, OLD_BOUND};
 
 /// The first eight bytes of a file (this project's profile).
-pub const MAGIC: [u8; 8] = *b"EPCTABLE";
+const MAGIC: [u8; 8] = *b"EPCTABLE";
 
 /// The version of a file whose records store all shares (this project's profile).
 pub const VERSION: u16 = 1;

@@ -59,7 +59,7 @@ pub fn write_record<W: Write>(
 
 /// The bytes of a record of either version, read again, give the mean,
 /// the ranks and the shares that were written, where no share is lost.
-pub fn law_record(mean: Scaled, plays: &[u16; 21], spread: &Spread)
+fn law_record(mean: Scaled, plays: &[u16; 21], spread: &Spread)
     ensures { (version : Version) (p : ℕ) → p ≤ 58 → IsHeld version p spread.now →
         IsRecordOf version p (record_of version p mean plays.now spread.now)
         mean plays.now spread.now }

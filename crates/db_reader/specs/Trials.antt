@@ -2,7 +2,6 @@
 use Rattle.std.specs.Prelude.{◌≡◌, ◌-◌, ◌==◌, true, if◌then◌else◌}
 use Rattle.db_reader.specs.declared.countdown.Countdown.{Countdown}
 use Rattle.db_reader.specs.declared.trial.FailAt.{FailAt}
-use Rattle.db_reader.specs.declared.trial.FailOnce.{FailOnce}
 
 -- a call is counted down: it fails by itself exactly where it is the one that is due
 pub record IsCounted (old new : Countdown) (Failed : Type 0) : Type 0 where
@@ -13,7 +12,3 @@ pub record IsCounted (old new : Countdown) (Failed : Type 0) : Type 0 where
 -- the calls of a source from the next on, counted down to the one that fails
 abbrev pub source_calls : {S : Type 0} → FailAt S → Countdown
 source_calls trial = trial.countdown
-
--- .. and those of a table
-abbrev pub table_calls : {T : Type 0} → FailOnce T → Countdown
-table_calls trial = trial.countdown

@@ -4,7 +4,6 @@ ghost use Rattle.std.specs.Prelude.{◌≡◌, length};
 use crate::given::{WHOLE_BYTES, accepted};
 use certificate::{CheckFault, QueryFault, check, fault_line, is_right};
 use db_layout::HeaderFault;
-use db_reader::trial::FailOnce;
 use db_reader::{Table, Whole};
 use home_board::Position;
 use legal_plays::{Roll, write_play};
@@ -287,39 +286,5 @@ fn answers_of_bound_one(rt: HostRuntime) -> Result<(), Fail> {
     assert_eq!(rt; checked.scaled(&two).err(), Some(QueryFault::OverBound));
     let mut table = checked.into_table();
     assert_eq!(rt; table.header().map(|header| header.bound), Ok(1));
-    Ok(())
-}
-
-#[test]
-fn each_read_failing_once(rt: HostRuntime) -> Result<(), Fail> {
-    let file = bound_one();
-    let mut reads = 0;
-    for call in 1..200 {
-        let Err((table, fault)) = check(FailOnce::new(Whole::new(&file), call)) else {
-            break;
-        };
-        assert_eq!(rt; fault, CheckFault::Read, "call {call}");
-        assert!(rt; check(table).is_ok(), "call {call}");
-        reads = call;
-    }
-    // the header, the two records, and the recorded one of each roll of the unfinished position
-    assert_eq!(rt; reads, 1 + 2 + 21);
-
-    let (ace, roll) = (aces(1)?, Roll::from_index(0).ok_or("no roll")?);
-    for query in 1..=4 {
-        let trial = FailOnce::new(Whole::new(&file), reads + query);
-        let mut checked = accepted(trial)?;
-        let faults = [
-            checked.scaled(&ace).err(),
-            checked.spread(&ace).err(),
-            checked.play(&ace, roll).err(),
-            checked.mean(&ace).err(),
-            checked.scaled(&ace).err(),
-        ];
-        for (index, fault) in faults.into_iter().enumerate() {
-            let expected = (index as u64 + 1 == query).then_some(QueryFault::Read);
-            assert_eq!(rt; fault, expected, "query {query}");
-        }
-    }
     Ok(())
 }

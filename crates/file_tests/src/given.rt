@@ -1,7 +1,8 @@
 //! What several of the tests are given: databases in memory, tables that are accepted, lines with
 //! their replies.
 use certificate::{Checked, check};
-use db_reader::{Paged, Source, Table};
+use db_reader::trial::FailAt;
+use db_reader::{Paged, SliceSource, Source, Table};
 use epc_query::{RunFault, run};
 use retrograde::{build, build_compact};
 use std::alloc::Global;
@@ -41,6 +42,16 @@ pub fn pages<S: Source + Drop>(alloc: Global, source: S, records: u16) -> Result
         Ok(pages) => Ok(pages),
         Err((_, fault)) => Err(Fail::from(fault)),
     }
+}
+
+/// The same over bytes in memory, where the source fails once, at this call.
+pub fn failing(
+    alloc: Global,
+    file: &[u8],
+    records: u16,
+    call: u64,
+) -> Result<Paged<FailAt<SliceSource<'_>>>, Fail> {
+    pages(alloc, FailAt::new(SliceSource::new(file), call), records)
 }
 
 /// What is written of the lines of an input over a table, and what `run` gives.

@@ -4,7 +4,7 @@ ghost use Rattle.std.specs.Prelude.{ℕ};
 
 use crate::given::{accepted, assert_replies, compact_database, database, pages, put};
 use certificate::{CheckFault, check};
-use db_reader::trial::{FailAt, FailOnce};
+use db_reader::trial::FailAt;
 use db_reader::{
     FileSource, Paged, PagedFault, Record, SliceSource, Source, SourceFault, Table, TableFault,
     Whole,
@@ -125,27 +125,9 @@ fn replies_do_not_depend_on_the_pages(rt: HostRuntime) -> Result<(), Fail> {
 }
 
 #[test]
-fn a_read_that_fails_is_told_and_passes(rt: HostRuntime) -> Result<(), Fail> {
-    let file = database(rt.alloc(), 3)?;
-    for call in 1..=6 {
-        let source = SliceSource::new(file.as_slice());
-        let table = FailOnce::new(pages(rt.alloc(), source, 2)?, call);
-        match check(table) {
-            Err((table, fault)) => {
-                assert!(rt; fault == CheckFault::Read);
-                accepted(table)?;
-            }
-            Ok(_) => return Err(Fail::from(CheckFault::Read)),
-        }
-    }
-    Ok(())
-}
-
-#[test]
 fn a_trial_fails_at_its_call_alone(rt: HostRuntime) -> Result<(), Fail> {
     for call in 0..=5 {
         let mut source = FailAt::new(SliceSource::new(b"bytes"), call);
-        let mut table = FailOnce::new(Whole::new(b"bytes"), call);
         for made in 1..=6 {
             let is_refused = if made % 2 == 0 {
                 source.length().is_err()
@@ -153,7 +135,6 @@ fn a_trial_fails_at_its_call_alone(rt: HostRuntime) -> Result<(), Fail> {
                 source.read_at(0, &mut []).is_err()
             };
             assert_eq!(rt; is_refused, made == call);
-            assert_eq!(rt; table.header() == Err(TableFault::Read), made == call);
         }
     }
     Ok(())

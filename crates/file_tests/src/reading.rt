@@ -1,8 +1,8 @@
-//! A table over known bytes, and over one that fails once.
+//! A table over known bytes, and over pages of a source that fails once.
 ghost use Rattle.std.specs.Prelude.{◌≡◌, length};
 
+use crate::given::failing;
 use db_layout::{Header, HeaderFault};
-use db_reader::trial::FailOnce;
 use db_reader::{Record, Table, TableFault, Whole};
 use std::test::Fail;
 
@@ -51,17 +51,21 @@ fn headers_and_records(rt: HostRuntime) -> Result<(), Fail> {
 }
 
 #[test]
-fn a_failure_at_each_call(rt: HostRuntime) {
+fn a_failure_at_each_call(rt: HostRuntime) -> Result<(), Fail> {
     let file = bound_zero();
+    // the length, the header's bytes and those of the record, which are kept; and again
     for (call, first, second) in [
         (0, true, true),
         (1, false, true),
         (2, false, true),
-        (3, true, false),
+        (3, false, true),
+        (4, true, false),
+        (5, true, false),
     ] {
-        let mut table = FailOnce::new(Whole::new(&file), call);
+        let mut table = failing(rt.alloc(), &file, 2, call)?;
         assert_eq!(rt; first_numbers(&mut table).is_some(), first, "call {call}");
         assert_eq!(rt; first_numbers(&mut table).is_some(), second, "call {call}");
         assert_eq!(rt; first_numbers(&mut table), Some((8, 7)), "call {call}");
     }
+    Ok(())
 }

@@ -1,7 +1,6 @@
 //! Old files that are written again as new ones. Writers that stop are those of `failing_calls`.
-use crate::given::{accepted, assert_replies, compact_database, database, pages};
+use crate::given::{accepted, assert_replies, compact_database, database, failing, pages};
 use certificate::{CheckFault, UpgradeFault, check};
-use db_reader::trial::FailOnce;
 use db_reader::{SliceSource, Whole};
 use std::test::Fail;
 
@@ -11,7 +10,7 @@ fn each_read_that_fails_once(rt: HostRuntime) -> Result<(), Fail> {
     let whole = compact_database(rt.alloc(), 3)?;
     let mut failed = 0u8;
     for call in 1..200 {
-        let table = FailOnce::new(Whole::new(file.as_slice()), call);
+        let table = failing(rt.alloc(), file.as_slice(), 1, call)?;
         match check(table) {
             Err((_, fault)) => assert!(rt; fault == CheckFault::Read),
             Ok(mut checked) => {

@@ -6,4 +6,3 @@ pub mod RollSums
 pub mod Rounded
 pub mod CommonFactors
 pub mod WideNumbers
-pub mod Ended

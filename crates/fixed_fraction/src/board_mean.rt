@@ -1,13 +1,11 @@
 //! A mean of the whole board as a numerator over 36 ^ 33, in two parts.
 ghost use Rattle.std.specs.Prelude.{◌≡◌, ℕ, ◌+◌, ◌*◌, ◌/◌, ◌%◌, ◌^◌, ◌<◌, ◌≤◌, ◌↔◌, IsTrue};
-ghost use Rattle.std.specs.Prelude.{IsSome, IfSome, ◌++◌};
-ghost use Rattle.std.specs.Int.{from_be_bytes, to_be_bytes, w64, w128};
-ghost use Rattle.race_model.specs.Files.{bytes_at};
+ghost use Rattle.std.specs.Prelude.{IsSome, IfSome};
 ghost use Rattle.race_model.specs.Fractions.{IsThousandths};
 ghost use Rattle.race_model.specs.LocalEquations.{whole};
-ghost use Rattle.fixed_fraction.specs.Board.{board_whole, part, long_number};
+ghost use Rattle.fixed_fraction.specs.Board.{board_whole, part};
 
-use crate::parts::{PART, are_parts, long_bytes, read_long, read_wide};
+use crate::parts::{PART, are_parts};
 use crate::scaled::{Scaled, WHOLE};
 use crate::wide::Wide;
 use std::marker::Model;
@@ -65,34 +63,6 @@ impl BoardMean {
         ensures { result ≡ upper * part + lower }
     {
         BoardMean { upper, lower }
-    }
-
-    /// The same number of rolls of a database whose numbers are over 36 ^ 22: its lower part is 0.
-    #[tactic(auto, unfolding(race_model::specs::LocalEquations::whole))]
-    pub fn of(mean: Scaled) -> Self
-        ensures { result ≡ mean * part }
-    {
-        BoardMean {
-            upper: mean.numerator(),
-            lower: 0,
-        }
-    }
-
-    /// The number that 24 bytes hold, the upper part first, each with its greatest byte first;
-    /// none exactly where the lower part is 36 ^ 11 or more, or the number is over 33 rolls.
-    pub fn from_bytes(bytes: &[u8; 24]) -> Option<Self>
-        ensures some { IsSome result ↔ ((from_be_bytes w64 (bytes_at bytes.now 16 8) < part)
-            × (long_number bytes.now ≤ 33 * board_whole)) }
-        ensures value { IfSome result (λ mean. mean ≡ long_number bytes.now) }
-    {
-        BoardMean::new(read_wide(bytes, 0), read_long(bytes, 16))
-    }
-
-    /// Its 24 bytes, the upper part first, each with its greatest byte first.
-    pub fn to_bytes(self) -> [u8; 24]
-        ensures { result ≡ to_be_bytes w128 (self / part) ++ to_be_bytes w64 (self % part) }
-    {
-        long_bytes(self.upper(), self.lower())
     }
 
     /// The upper part, over 36 ^ 22.

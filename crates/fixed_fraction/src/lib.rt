@@ -8,7 +8,7 @@
 #![tactic(auto)]
 
 pub use board_mean::BoardMean;
-pub use counts::{LongCount, MiddleCount, MiddleSum, ShortCount, ShortSum, ended_within};
+pub use counts::{LongCount, ShortCount};
 pub use fraction::{Fraction, epc, mean, mean_and_epc, share, thousandths, thousandths_of};
 pub use parts::PART;
 pub use roll_sum::{LongSum, Summand, sum_of};

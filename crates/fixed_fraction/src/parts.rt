@@ -1,7 +1,5 @@
-//! The bytes of numbers in two parts, and powers of 36.
-ghost use Rattle.std.specs.Prelude.{◌≡◌, ◌+◌, ◌*◌, ◌^◌, ◌<◌, ◌≤◌, ◌↔◌, ◌++◌, length, IsTrue};
-ghost use Rattle.std.specs.Int.{from_be_bytes, to_be_bytes, w64, w128};
-ghost use Rattle.race_model.specs.Files.{bytes_at};
+//! The parts of numbers in two parts, and powers of 36.
+ghost use Rattle.std.specs.Prelude.{◌≡◌, ◌+◌, ◌*◌, ◌^◌, ◌<◌, ◌≤◌, ◌↔◌, IsTrue};
 ghost use Rattle.fixed_fraction.specs.Board.{part};
 
 /// How many of a lower part are one of the upper part, 36 ^ 11 (this project's profile).
@@ -60,46 +58,4 @@ pub(crate) fn are_count_parts(k: u8, upper: u128, lower: u64) -> bool
     ensures { IsTrue result ↔ ((lower < part) × (upper * part + lower ≤ 36 ^ k)) }
 {
     are_parts(upper, lower, power_of_36(k - 11))
-}
-
-/// The bytes of an upper part of 128 bits and a lower part, each with the greatest byte first.
-pub(crate) fn long_bytes(upper: u128, lower: u64) -> [u8; 24]
-    ensures { result ≡ to_be_bytes w128 upper ++ to_be_bytes w64 lower }
-{
-    let mut bytes = [0; 24];
-    bytes[..16].copy_from_slice(&upper.to_be_bytes());
-    bytes[16..].copy_from_slice(&lower.to_be_bytes());
-    bytes
-}
-
-/// The same of an upper part of 64 bits.
-pub(crate) fn middle_bytes(upper: u64, lower: u64) -> [u8; 16]
-    ensures { result ≡ to_be_bytes w64 upper ++ to_be_bytes w64 lower }
-{
-    let mut bytes = [0; 16];
-    bytes[..8].copy_from_slice(&upper.to_be_bytes());
-    bytes[8..].copy_from_slice(&lower.to_be_bytes());
-    bytes
-}
-
-/// The number in the 16 bytes from a place on, greatest byte first.
-pub(crate) fn read_wide(bytes: &[u8], place: usize) -> u128
-    requires { place + 16 ≤ length bytes.now }
-    ensures { result ≡ from_be_bytes w128 (bytes_at bytes.now place 16) }
-{
-    match bytes[place..place + 16].try_into() {
-        Ok(number) => u128::from_be_bytes(number),
-        Err(_) => unreachable!(),
-    }
-}
-
-/// The number in the 8 bytes from a place on, greatest byte first.
-pub(crate) fn read_long(bytes: &[u8], place: usize) -> u64
-    requires { place + 8 ≤ length bytes.now }
-    ensures { result ≡ from_be_bytes w64 (bytes_at bytes.now place 8) }
-{
-    match bytes[place..place + 8].try_into() {
-        Ok(number) => u64::from_be_bytes(number),
-        Err(_) => unreachable!(),
-    }
 }

@@ -58,19 +58,6 @@ pub(crate) fn rounded(given: &Numbers) -> Option<Numbers> {
     Some(told)
 }
 
-/// The bytes of a number.
-pub(crate) fn bytes(given: &Numbers) -> Option<Numbers> {
-    let mut told = Numbers::none();
-    told.add_bytes(&mean_at(given, 0)?.to_bytes());
-    Some(told)
-}
-
-/// The number of some bytes.
-pub(crate) fn read(given: &Numbers) -> Option<Numbers> {
-    let mean = BoardMean::from_bytes(&given.bytes(0))?;
-    Some(parts_of(mean))
-}
-
 /// A number, and 49/6 of it, in lowest terms.
 pub(crate) fn fractions(given: &Numbers) -> Option<Numbers> {
     let (mean, epc) = board_mean_and_epc(mean_at(given, 0)?);

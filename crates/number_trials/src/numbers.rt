@@ -28,11 +28,6 @@ impl Numbers {
         }
     }
 
-    /// How many numbers there are.
-    pub(crate) fn count(&self) -> usize {
-        self.count
-    }
-
     /// A number, or 0.
     pub(crate) fn at(&self, index: usize) -> u128 {
         self.numbers.get(index).copied().unwrap_or(0)
@@ -46,15 +41,6 @@ impl Numbers {
     /// The lower 8 bits of a number.
     pub(crate) fn byte(&self, index: usize) -> u8 {
         (self.at(index) % 256) as u8
-    }
-
-    /// The bytes from the first number on.
-    pub(crate) fn bytes<const N: usize>(&self, first: usize) -> [u8; N] {
-        let mut bytes = [0; N];
-        for index in 0..N {
-            bytes[index] = self.byte(first.saturating_add(index));
-        }
-        bytes
     }
 
     /// Which of three numbers each roll leads to.
@@ -79,13 +65,6 @@ impl Numbers {
         let (first, second, third) = wide.digits();
         self.add(first);
         self.add_parts(u128::from(second), third);
-    }
-
-    /// Adds bytes.
-    pub(crate) fn add_bytes(&mut self, bytes: &[u8]) {
-        for byte in bytes {
-            self.add(u128::from(*byte));
-        }
     }
 
     /// All of them.
