@@ -49,7 +49,7 @@ help:
 	@echo 'make page               $(PAGE)'
 	@echo 'make work-page          $(WORK_PAGE), the same with source maps, for work on it'
 	@echo 'make js                 $(PACKAGE)'
-	@echo 'make reference          docs/ref, of the comments and contracts of the sources'
+	@echo 'make reference          $(OUT)/ref, of the comments and contracts of the sources'
 	@echo 'make second-opinion     the theorem in Coq, proved, and the checker that Coq makes'
 	@echo 'make format             lays out the Python and the C of tests, by black and clang-format'
 	@printf 'make install            into PREFIX (%s), below DESTDIR where that is set\n' "$$PREFIX"
@@ -88,7 +88,7 @@ $(PACKAGE): $(MODULES) $(wildcard js/*.js js/*.d.ts js/*.json) js/README.md VERS
 	packaging/js $(OUT)/modules $(OUT)/js
 
 reference:
-	tools/reference
+	tools/reference $(OUT)/ref
 
 second-opinion:
 	tests/needs.py coqc

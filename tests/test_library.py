@@ -488,15 +488,6 @@ def test_files(caller, built, board, note, name, kind, bound, step):
     note(f"files, {kind} of {bound} pips: {done.output.decode().strip()}")
 
 
-def test_example_of_files_in_c(library, room, built, board):
-    page = "docs/embedding.md"
-    Path("example.c").write_text(code_blocks(page, "c")[2], encoding="utf-8")
-    shutil.copy(built(44), "race.db")
-    words = ["cc", "-std=c11", *FLAGS, "-o", "example", "example.c", library / "libbearoff.a"]
-    expect(run(*words), 0)
-    expect(run("./example", "race.db", board(90)), 0, code_blocks(page, "text")[0])
-
-
 def test_status_texts(library):
     """What the library says of each status is what the header says beside it."""
     header = (ROOT / "c/bearoff.h").read_text(encoding="utf-8")
@@ -541,12 +532,19 @@ def test_texts(library):
         assert status == 0 or position.raw == b"-" * 6, text
 
 
-def test_example_in_c(library, room, built):
+@pytest.mark.parametrize("compiler", ["cc", "c++"])
+def test_example_in_c(library, room, built, compiler):
     Path("example.c").write_text(code_blocks("docs/embedding.md", "c")[0], encoding="utf-8")
     shutil.copy(built(44), "race.db")
-    words = ["cc", "-std=c11", *FLAGS, "-o", "example", "example.c", library / "libbearoff.a"]
-    expect(run(*words), 0)
+    before = ["-std=c11"] if compiler == "cc" else AS_CPP
+    behind = [] if compiler == "cc" else ["-x", "none"]
+    words = [*before, *FLAGS, "-o", "example", "example.c", *behind, library / "libbearoff.a"]
+    expect(run(compiler, *words), 0)
     expect(run("./example"), 0, PRINTED)
+    need("valgrind")
+    words = [*VALGRIND, "--log-file=said", "--main-stacksize=16777216", "./example"]
+    run(*words, timeout=600)
+    assert Path("said").read_text() == ""
 
 
 @pytest.fixture(scope="session")
@@ -681,52 +679,6 @@ def test_board_example_in_python(python, room):
     text = code_blocks("docs/embedding.md", "python")[1]
     Path("example.py").write_text(text, encoding="utf-8")
     expect(python("example.py", cwd=room), 0, PRINTED_OF_A_BOARD)
-
-
-class TestExampleOfAFile:
-    """The example that reads a file of positions."""
-
-    TEXT = b"0,0,0,0,0,1\r\n2,2,2,2,2,2\n0,0,0,0,0,16\n0,0,0,0,0,01\n0,0,0,0,6,5\nsix"
-    TOLD = """0,0,0,0,0,1: 1.2500 rolls, 10.208 pips
-2,2,2,2,2,2: 6.3603 rolls, 51.943 pips
-line 3: 0,0,0,0,0,16: a position has more than 15 checkers
-line 4: 0,0,0,0,0,01: the text is not six counts with commas between them
-line 5: 0,0,0,0,6,5: more pips than the bound, or a bound over the greatest
-line 6: six: the text is not six counts with commas between them"""
-
-    @pytest.fixture(params=["cc", "c++"])
-    def positions(self, request, library, room, built):
-        text = code_blocks("docs/embedding.md", "c")[1]
-        Path("example.c").write_text(text, encoding="utf-8")
-        Path("positions.txt").write_bytes(self.TEXT)
-        os.symlink(built(44), "race.db")
-        before = ["-std=c11"] if request.param == "cc" else AS_CPP
-        behind = [] if request.param == "cc" else ["-x", "none"]
-        words = [*before, *FLAGS, "-o", "positions", "example.c", *behind]
-        expect(run(request.param, *words, library / "libbearoff.a"), 0)
-        return "./positions"
-
-    def test_lines(self, positions):
-        done = run(positions, "race.db", "positions.txt")
-        expect_that(done.output + done.errors == as_bytes(self.TOLD), done, self.TOLD)
-
-    def test_no_database(self, positions):
-        done = run(positions, "positions.txt", "positions.txt")
-        expect_that(
-            done.output + done.errors == b"positions.txt: header bad-magic\n", done, "the fault"
-        )
-
-    def test_one_word(self, positions):
-        done = run(positions, "race.db")
-        expect_that(
-            done.output + done.errors == b"usage: positions DATABASE FILE\n", done, "the usage"
-        )
-
-    def test_valgrind(self, positions):
-        need("valgrind")
-        words = [*VALGRIND, "--log-file=said", "--main-stacksize=16777216", positions]
-        run(*words, "race.db", "positions.txt", timeout=600)
-        assert Path("said").read_text() == ""
 
 
 def test_pip(python, example):

@@ -1,8 +1,7 @@
 """Compares the pages of docs/ with the sources, and fails where one says what the sources don't
 have:
 
-- the pages of docs/ref are what tools/reference makes of the sources as they are, and no others;
-  definitions.md there names each public definition once, in the section of its crate, with a
+- tools/reference makes four pages of the sources: definitions.md names each public definition once, in the section of its crate, with a
   comment; lemmas.md each law and each lemma module, with the modules that it cites; clauses.md
   each public function that has a contract; edits.md each edit; and what has no comment is refused;
 - each link of a page leads to a file, and to a heading where it names one; each file of tests/,
@@ -293,26 +292,6 @@ def compare_clauses(page, crate):
             wrong.append(f"{page}: a clause of {name} of {path} is missing")
 
 
-def compare_reference(made):
-    """The pages of docs/ref are those that are made of the sources, word for word."""
-    here = {os.path.basename(path) for path in files("docs/ref", "")}
-    for name in sorted(here | set(os.listdir(made))):
-        kept = ROOT / "docs/ref" / name
-        lines = kept.read_text(encoding="utf-8").split("\n") if kept.exists() else []
-        fresh = made / name
-        wanted = fresh.read_text(encoding="utf-8").split("\n") if fresh.exists() else []
-        if lines != wanted:
-            at = next(
-                (at for at, pair in enumerate(zip(lines, wanted)) if len({*pair}) > 1),
-                min(len(lines), len(wanted)),
-            )
-            wrong.append(
-                f"docs/ref/{name}, line {at + 1}: the sources say otherwise, and"
-                f" `make reference` makes the page anew\n  there: {lines[at:at + 1]}\n"
-                f"  made:  {wanted[at:at + 1]}"
-            )
-
-
 def compare_layers(page):
     """The picture of the crates: each in the layer above the highest that it rests on; and the
     names of the two ways."""
@@ -483,8 +462,7 @@ def compare_replies(page, program, database):
 def compare_functions(page):
     """The functions of the header for C are those that the page lists."""
     there = set(re.findall(r"(?m)^(?:uint32_t|bool) (bearoff_\w+)\(", read("c/bearoff.h")))
-    part = re.search(r"(?ms)^## What C can ask\n(.*?)^## ", read(page))
-    told = re.findall(r"`(bearoff_\w+)`", part.group(1)) if part else []
+    told = re.findall(r"`(bearoff_\w+)`", read(page))
     for name in sorted(there ^ set(told)):
         wrong.append(f"{page}: {name} stands in the list or in bearoff.h alone")
 
@@ -817,7 +795,6 @@ def compare_named_files(path):
 
 
 PAGES = ["README.md", *files("docs", ".md")]
-BY_HAND = [page for page in PAGES if not page.startswith("docs/ref/")]
 # a program and an error of the system, and how lemmas are named
 OTHERS = {"paste", "EINTR", "X_of_Y"}
 NAMING = [
@@ -837,19 +814,27 @@ NAMING = [
 
 
 @pytest.fixture(scope="module")
-def made(tmp_path_factory):
-    """The pages that are made of the sources as they are."""
-    folder = tmp_path_factory.mktemp("reference")
-    done = subprocess.run(
-        [sys.executable, "-I", ROOT / "tools/reference", folder], capture_output=True, text=True
-    )
-    if done.returncode:
-        pytest.fail(done.stderr, pytrace=False)
-    return folder
+def made():
+    """A folder with the pages that are made of the sources as they are, from which their links
+    lead."""
+    os.makedirs(ROOT / "out", exist_ok=True)
+    with tempfile.TemporaryDirectory(dir=ROOT / "out", prefix="ref-") as folder:
+        words = [sys.executable, "-I", ROOT / "tools/reference", folder]
+        done = subprocess.run(words, capture_output=True, text=True)
+        if done.returncode:
+            pytest.fail(done.stderr, pytrace=False)
+        yield os.path.relpath(folder, ROOT)
 
 
-def test_reference(made):
-    none_wrong(compare_reference, made)
+def test_links_of_the_reference(made):
+    assert sorted(os.listdir(ROOT / made)) == [
+        "clauses.md",
+        "definitions.md",
+        "edits.md",
+        "lemmas.md",
+    ]
+    for name in os.listdir(ROOT / made):
+        none_wrong(compare_links, f"{made}/{name}")
 
 
 @pytest.mark.parametrize(
@@ -869,37 +854,37 @@ def test_no_comment_is_refused(tmp_path, place, text, said):
     (tmp_path / "crates/one" / place).write_text(text, encoding="utf-8")
     words = [sys.executable, "-I", tmp_path / "tools/reference"]
     done = subprocess.run(words, capture_output=True, text=True)
-    assert (done.returncode, (tmp_path / "docs").exists()) == (1, False)
+    assert (done.returncode, (tmp_path / "out").exists()) == (1, False)
     assert said in done.stderr and done.stderr.count("\n") == 1, done.stderr
 
 
 @pytest.mark.parametrize("crate", crates())
-def test_definitions(crate):
-    none_wrong(compare_definitions, "docs/ref/definitions.md", crate)
+def test_definitions(made, crate):
+    none_wrong(compare_definitions, f"{made}/definitions.md", crate)
 
 
 @pytest.mark.parametrize("crate", crates())
-def test_lemmas(crate):
-    none_wrong(compare_lemmas, "docs/ref/lemmas.md", crate)
+def test_lemmas(made, crate):
+    none_wrong(compare_lemmas, f"{made}/lemmas.md", crate)
 
 
 @pytest.mark.parametrize("crate", crates())
-def test_clauses(crate):
-    none_wrong(compare_clauses, "docs/ref/clauses.md", crate)
+def test_clauses(made, crate):
+    none_wrong(compare_clauses, f"{made}/clauses.md", crate)
 
 
-def test_laws_have_rows():
-    text = read("docs/ref/lemmas.md")
-    told = re.findall(r"(?m)^\| \[`(law_\w+)`\]", text)
-    none_wrong(compare_names, "docs/ref/lemmas.md", "law", told, laws())
+def test_laws_have_rows(made):
+    page = f"{made}/lemmas.md"
+    told = re.findall(r"(?m)^\| \[`(law_\w+)`\]", read(page))
+    none_wrong(compare_names, page, "law", told, laws())
 
 
-def test_edits_have_rows():
+def test_edits_have_rows(made):
     there = [f"{crate}/{edit}" for crate in crates() for edit in edits_of(crate)]
     row = r"(?m)^\| \[?([\w ]+)(?:\]\([^)]*\))? \| \[[^\]]*\]\(\.\./\.\./crates/(\w+)/"
-    rows = re.findall(row, read("docs/ref/edits.md"))
+    rows = re.findall(row, read(f"{made}/edits.md"))
     told = [f"{crate}/{edit.replace(' ', '_')}" for edit, crate in rows]
-    none_wrong(compare_names, "docs/ref/edits.md", "edit", told, there)
+    none_wrong(compare_names, f"{made}/edits.md", "edit", told, there)
 
 
 def test_headline():
@@ -911,25 +896,25 @@ def test_each_page_is_named():
     assert set(PAGES) - {"README.md"} <= set(linked), "README.md names not each page"
 
 
-@pytest.mark.parametrize("page", BY_HAND)
+@pytest.mark.parametrize("page", PAGES)
 def test_cited(page):
     none_wrong(compare_cited, page)
 
 
-@pytest.mark.parametrize("page", BY_HAND)
+@pytest.mark.parametrize("page", PAGES)
 def test_commands(page):
     none_wrong(compare_commands, page)
 
 
 def test_figures():
-    none_wrong(compare_figures, BY_HAND)
+    none_wrong(compare_figures, PAGES)
 
 
 def test_layers():
     none_wrong(compare_layers, "docs/crates.md")
 
 
-@pytest.mark.parametrize("page", BY_HAND)
+@pytest.mark.parametrize("page", PAGES)
 def test_edits(page):
     none_wrong(compare_edits, page)
 
@@ -950,7 +935,7 @@ def test_named_files(path):
 
 
 def test_sentences():
-    none_wrong(compare_sentences, BY_HAND)
+    none_wrong(compare_sentences, PAGES)
 
 
 def test_version():

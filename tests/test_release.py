@@ -109,7 +109,8 @@ def test_the_version_of_the_archives_program(release):
 def test_the_files_of_the_archive(release):
     listed = succeed(ROOT / "packaging/put_down", "--list").decode().splitlines()
     rust = ["rust/Cargo.toml", "rust/build.rs", "rust/src/lib.rs", "rust/tests/answers.rs"]
-    for name in [*listed, "CHANGELOG.md", "PROVENANCE.md", *rust]:
+    reference = [f"reference/{name}.md" for name in ("clauses", "definitions", "edits", "lemmas")]
+    for name in [*listed, "CHANGELOG.md", "PROVENANCE.md", *rust, *reference]:
         file = release.tree / name
         assert file.exists() and file.stat().st_size > 0, f"the archive has no {name}"
 

@@ -63,9 +63,10 @@ def write_caller(room, lines):
     )
 
 
-def test_a_program_over_it(cargo, built, room):
-    """The example of its page, in a crate that depends on it."""
-    [example] = code_blocks("rust/README.md", "rust")
+@pytest.mark.parametrize("page", ["rust/README.md", "docs/embedding.md"])
+def test_a_program_over_it(cargo, built, room, page):
+    """The example of a page, in a crate that depends on it."""
+    [example] = code_blocks(page, "rust")
     write_caller(room, example)
     shutil.copyfile(built(44), room / "race.db")
     expect(cargo("run", cwd=room), 0, "6.083 rolls, 4/2 4/3\n")
