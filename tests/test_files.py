@@ -350,3 +350,17 @@ class TestSteps:
         expect(done, 0, writer.told)
         expect_same("two.db", writer.content, "the file to which the link leads")
         assert Path("one.db").read_bytes() == OLD
+
+    def test_another_file_under_the_name_of_the_new_one(self, writer, strace):
+        """Whoever may change the folder gives the name of the new file to one of his own while its
+        bytes go to the disk: that one takes no place."""
+        put("db")
+        script = """
+            strace -f -qq -o trace -e inject=fsync:delay_enter=$0:when=1 "$@" &
+            until grep -sq 'fsync(' trace; do sleep 0.01; done
+            echo his >his
+            mv his bearoff-*.tmp
+            wait $!"""
+        done = run("sh", "-c", script, HELD_UP, *writer.command("db"), timeout=60)
+        expect(done, 1, "", "bearoff: write")
+        assert Path("db").read_bytes() == OLD and names() == ["./db", "./eight", "./trace"]

@@ -28,7 +28,7 @@ FAULTS = {
     "open": ("open", "write"),
     "closed-open": ("open",),
     "link": ("open",),
-    "tell": ("open",),
+    "tell": ("open", "write"),
     "sync": ("write",),
     "unable-sync": ("write",),
     "rename": ("write",),

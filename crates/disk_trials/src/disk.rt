@@ -224,7 +224,7 @@ impl Disk for MemoryDisk {
         false
     }
 
-    fn settle(&mut self, file: MemoryFile, path: &str) -> Result<(), DiskFault> {
+    fn settle(&mut self, file: MemoryFile, path: &str) -> Result<MemoryFile, DiskFault> {
         self.count()?;
         let MemoryFile { number, bytes } = file;
         let Some(found) = events::at(self.events.as_slice(), name_of(path)) else {
@@ -234,7 +234,10 @@ impl Disk for MemoryDisk {
             return Err(DiskFault);
         }
         self.happens(Event::Settled(found, bytes))?;
-        Ok(())
+        Ok(MemoryFile {
+            number,
+            bytes: Vec::new(self.alloc),
+        })
     }
 
     fn close(&mut self, _file: MemoryFile) -> Result<(), DiskFault> {

@@ -147,9 +147,9 @@ pub trait Disk {
         ensures emptied { result ≡ true → told self.new ≡ None }
         ensures failed { result ≡ false → told self.new ≡ told self.old };
 
-    /// Makes sure of the bytes that were written into a file which was made at this path, and
-    /// closes it.
-    fn settle(&mut self, file: Self::File, path: &str) -> Result<(), DiskFault>
+    /// Makes sure of the bytes that were written into a file which was made at this path, and hands
+    /// it back.
+    fn settle(&mut self, file: Self::File, path: &str) -> Result<Self::File, DiskFault>
         ensures paths { paths self.new ≡ paths self.old }
         ensures settled { OnOk result ((bytes : List ℕ) → Self.File.contents file ≡ Some bytes
             → Steps (Settles (place_of (paths self.old) path.now) bytes)

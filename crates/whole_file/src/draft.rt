@@ -514,7 +514,7 @@ fn settle<D: Disk>(
     disk: &mut D,
     names: &Names,
     writer: BufWriter<D::File>,
-) -> Result<(), DraftFault>
+) -> Result<D::File, DraftFault>
     ensures paths { D.paths disk.new ≡ D.paths disk.old }
     ensures settled { OnOk result ((bytes : List ℕ)
         → writer_contents D.File.contents writer ≡ Some bytes
@@ -527,13 +527,24 @@ fn settle<D: Disk>(
         return Err(DraftFault::Write);
     };
     match disk.settle(file, names.new.as_str()) {
-        Ok(()) => Ok(()),
+        Ok(file) => Ok(file),
         Err(_) => Err(DraftFault::Write),
     }
 }
 
-/// Gives a new file that was made sure of its last name.
-fn rename<D: Disk>(disk: &mut D, names: &Names) -> Result<(), DraftFault>
+/// Whether a path names an open file, and no other that was put there meanwhile.
+fn names_file<D: Disk>(disk: &mut D, path: &str, file: &D::File) -> bool
+    ensures paths { D.paths disk.new ≡ D.paths disk.old }
+    ensures stays { D.told disk.new ≡ D.told disk.old }
+{
+    match (disk.facts(file), disk.facts_at(path)) {
+        (Ok(told), Ok(named)) => is_of(&named, &told),
+        _ => false,
+    }
+}
+
+/// Gives a new file that was made sure of its last name, where it still has its first one.
+fn rename<D: Disk>(disk: &mut D, names: &Names, file: &D::File) -> Result<(), DraftFault>
     ensures paths { D.paths disk.new ≡ D.paths disk.old }
     ensures renamed { OnOk result (Steps (Renames
         (place_of (D.paths disk.old) (string_bytes names.now.new))
@@ -542,6 +553,9 @@ fn rename<D: Disk>(disk: &mut D, names: &Names) -> Result<(), DraftFault>
     ensures failed { OnErr result (D.told disk.new ≡ D.told disk.old) }
     ensures fault { IfErr result (λ fault. fault ≡ Write) }
 {
+    if !names_file(disk, names.new.as_str(), file) {
+        return Err(DraftFault::Write);
+    }
     match disk.rename(names.new.as_str(), names.place.as_str()) {
         Ok(()) => Ok(()),
         Err(_) => Err(DraftFault::Write),
@@ -592,7 +606,7 @@ fn put<D: Disk>(disk: &mut D, names: &Names, writer: BufWriter<D::File>) -> Resu
     ensures fault { IfErr result (λ fault. fault ≡ Write) }
 {
     match settle(disk, names, writer) {
-        Ok(()) => match rename(disk, names) {
+        Ok(file) => match rename(disk, names, &file) {
             Ok(()) => match settle_names(disk, names) {
                 Ok(_) => Ok(()),
                 Err(fault) => Err(fault),

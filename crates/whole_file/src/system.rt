@@ -139,8 +139,9 @@ where
         file.is_ours() && file.set_len(0).is_ok()
     }
 
-    fn settle(&mut self, file: R::File, _path: &str) -> Result<(), DiskFault> {
-        sync(&file)
+    fn settle(&mut self, file: R::File, _path: &str) -> Result<R::File, DiskFault> {
+        sync(&file)?;
+        Ok(file)
     }
 
     fn close(&mut self, file: R::File) -> Result<(), DiskFault> {
