@@ -6,7 +6,7 @@ to the lines that stand behind `from:` in the step, or one that an earlier step 
 Any other number in digits has to be a pip count of such a position, or what the ace-stack rule
 says of it; and so many checkers, or so many on a point, have to be there. A difference stands
 behind `from:`, as in `51.943 - 49.679 > 2` or `158/81 - 1/1 = 77/81`, and has to hold of such
-numbers. A roll that is asked has to have more than one play. The page, docs/lessons.md, has to
+numbers. A roll that is asked has to have more than one play. The page, docs/page.md, has to
 name the lessons in their order. What the ace-stack rule is off over all stacks is compared too,
 and what a third checker costs at most. An
 estimate that a step names has to be what its rule of thumb says of the position."""
@@ -199,6 +199,6 @@ def test_the_ace_stack_rule(replies):
 
 
 def test_the_page_names_the_lessons():
-    page = (ROOT / "docs/lessons.md").read_text(encoding="utf-8")
+    page = (ROOT / "docs/page.md").read_text(encoding="utf-8")
     named = re.findall(r'(?m)^\d+\. .*bearoff\.html#lesson=\d+">([^<]*)</a>', page)
     assert named == [title for title, _ in LESSONS]

@@ -14,7 +14,7 @@ have:
   must-fail/ or wrong_bodies of each;
 - each name in the pages by hand, as `IsRight` or `Checked::mean`, stands somewhere in the sources;
 - docs/definitions.md names the files and the number of lines that `IsRight` rests on;
-- docs/crates.md draws each crate in the layer that crates.txt gives it, and its two ways go
+- docs/contributing.md draws each crate in the layer that crates.txt gives it, and its two ways go
   through crates that are there;
 - README.md has at most 700 words, no sentence of more than eight words stands twice in it and the
   pages by hand, and no figure on two of them;
@@ -911,7 +911,7 @@ def test_figures():
 
 
 def test_layers():
-    none_wrong(compare_layers, "docs/crates.md")
+    none_wrong(compare_layers, "docs/contributing.md")
 
 
 @pytest.mark.parametrize("page", PAGES)

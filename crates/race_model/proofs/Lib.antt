@@ -1,6 +1,6 @@
 -- The proofs of the laws in src/laws. Each law's own file, laws/SUBJECT/law_NAME/Answers.antt,
 -- names the lemmas that it is; the lemmas stand here by subject, the lowest first. The page
--- docs/laws.md leads from each law to the modules that its proof rests on, and from these on.
+-- docs/definitions.md leads from the headline to the modules that its proof rests on.
 pub mod Numbers
 pub mod Dice
 pub mod Positions
