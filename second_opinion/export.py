@@ -1,6 +1,8 @@
 #!/usr/bin/env python3
-"""Tells Coq a file: export.py FILE >File.v, with the theorem that it is right, which Coq proves by
-running the check itself."""
+"""Tells Coq a file: export.py FILE >out/second_opinion/File.v, with the theorem that it is right,
+which Coq proves by running the check itself: coqc -R . SecondOpinion File.v, in that folder. The
+bytes stand there as hexadecimal lines; that they are those of FILE says, with no output,
+sed -n 's/^"\\([0-9a-f]*\\)"%hex;*$/\\1/p' File.v | xxd -r -p | cmp - FILE"""
 
 import sys
 
