@@ -19,7 +19,7 @@ use crate::files::compare_files;
 use crate::plain::compare_positions;
 use crate::plain_board::{Places, PlainBoard};
 use crate::random::Random;
-use book::{Board, BoardLines};
+use epc_query::{Board, BoardLines};
 use certificate::{Checked, check, check_board};
 use db_reader::Whole;
 use ranking::{RankTable, Ranks};
