@@ -6,7 +6,7 @@ ghost use Rattle.bearoff_c.specs.Refusals.{open_refusal, refusal_in};
 
 use crate::opened::OpenedFile;
 use crate::statuses::Refusal;
-use book::{Accepted, Board, Database};
+use epc_query::{Accepted, Board, Database};
 use db_layout::{BOARD_VERSION, BoardHeader};
 use ranking::RankTable;
 

@@ -9,8 +9,8 @@ ghost use Rattle.bearoff_c.specs.Refusals.{open_refusal, status_of};
 use crate::kept::File;
 use crate::opened::OpenedFile;
 use crate::statuses::{OK, Refusal, SHORT};
-use book::BoardText;
-use epc_query::Text;
+use epc_query::BoardText;
+use query_text::Text;
 
 /// Answers a line of the query language by a file of any version. The line is given without its
 /// line ending: `text` has its reply in front, without the line feed, and the rest of it stays as

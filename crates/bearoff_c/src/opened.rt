@@ -18,7 +18,7 @@ ghost use Rattle.bearoff_c.specs.Longs.{long_number_of};
 use crate::distributions::{put_shares, shares_by};
 use crate::numbers::{Long, LongFraction, RoundedLong};
 use crate::rolls::LongMean;
-use book::{Board, Database, MOST_ROLLS};
+use epc_query::{Board, Database, MOST_ROLLS};
 use fixed_fraction::{WHOLE, Wide};
 use home_board::Position;
 use legal_plays::{Play, Roll};

@@ -5,7 +5,7 @@ ghost use Rattle.race_model.specs.LocalEquations.{whole};
 ghost use Rattle.bearoff_c.specs.Longs.{long_number_of};
 
 use crate::numbers::{Long, LongFraction, RoundedLong};
-use epc_query::Number;
+use query_text::Number;
 use fixed_fraction::{BoardMean, Scaled, Wide, board_mean_fraction, epc, mean};
 
 /// A number of rolls that C has in three words.

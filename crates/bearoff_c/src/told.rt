@@ -17,7 +17,7 @@ use crate::positions::Counts;
 use crate::ranks::{find_in, find_ranks_in};
 use crate::rolls::LongMean;
 use crate::statuses::{OK, Refusal};
-use book::{Database, RisingRecords};
+use epc_query::{Database, RisingRecords};
 use home_board::Position;
 
 /// What is told of a position.

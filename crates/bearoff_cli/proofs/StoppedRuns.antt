@@ -17,7 +17,7 @@ use Rattle.epc_query.specs.AnyFiles.{AnyFile, database_file, bound_by, IsRightBy
 use Rattle.epc_query.specs.Runs.{HasAnswered, HasPart, HasReplies, IsRunStopped, IsStoppedAt}
 use Rattle.epc_query.specs.declared.run_fault.RunFault.{RunFault}
 use Rattle.epc_query.specs.declared.run_fault.RunFault.TheVariants.{Read, Write, Table, Memory, Turns}
-use Rattle.epc_query.proofs.Held.{appends_same, part_after, part_all}
+use Rattle.query_text.proofs.Held.{appends_same, part_after, part_all}
 use Rattle.epc_query.proofs.Runs.{failed_flush, flushed, read_front, stopped_in}
 use Rattle.exit_status.specs.declared.fault.Fault.{Fault}
 use Rattle.bearoff_cli.specs.FileAnswers.{WritesLevels, count_line}

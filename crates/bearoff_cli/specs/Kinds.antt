@@ -7,7 +7,7 @@ use Rattle.race_model.specs.Files.{bytes_at, version_of}
 use Rattle.race_model.specs.Versions.{version_number}
 use Rattle.retrograde.specs.UsualVersion.{usual_version}
 use Rattle.retrograde.specs.BuiltBoards.{IsBuiltBoard}
-use Rattle.book.specs.declared.database.Accepted.{Accepted}
+use Rattle.epc_query.specs.declared.database.Accepted.{Accepted}
 use Rattle.epc_query.specs.AnyFiles.{AnyFile, database_file, board_file}
 use Rattle.command_line.specs.declared.words.FileKind.{FileKind}
 use Rattle.command_line.specs.declared.words.FileKind.TheVariants.{Database, Board}

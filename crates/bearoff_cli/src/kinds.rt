@@ -18,14 +18,16 @@ ghost use Rattle.bearoff_cli.specs.StoppedRuns.{AreStopped, WritesLevelPart, Wri
 ghost use Rattle.bearoff_cli.specs.Turns.{UsesTurns};
 
 use crate::files::flush;
-use book::{Accepted, Board, BoardLines, BoardText, Database, board_level, put_board_level};
 use certificate::check_board;
 use command_line::FileKind;
 use db_layout::{BOARD_BOUND, BOARD_VERSION, BoardHeader, read_short};
 use epc_query::laws::law_level_text;
-use epc_query::{RunFault, run_lines, write_line};
+use epc_query::{
+    Accepted, Board, BoardLines, BoardText, Database, RunFault, board_level, put_board_level, run_lines,
+};
 use exit_status::Fault;
 use home_board::MAX_BOUND;
+use query_text::write_line;
 use ranking::RankTable;
 use std::alloc::Global;
 use std::io::{Read, Write};
@@ -74,7 +76,7 @@ pub fn accept(kind: FileKind, bytes: &[u8]) -> Result<Accepted, Fault>
         × IsFirstBy (file_of kind bytes.now) cause × (fault ≡ of_check cause)) }
 {
     match kind {
-        FileKind::Database => match book::accept(bytes) {
+        FileKind::Database => match epc_query::accept(bytes) {
             Ok(kept) => Ok(kept),
             Err(fault) => Err(Fault::from(fault)),
         },

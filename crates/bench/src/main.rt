@@ -20,10 +20,9 @@
 //! rates differ from run to run.
 #![tactic(auto)]
 
-use book::Database;
 use certificate::check;
 use db_reader::{Paged, SliceSource, Table};
-use epc_query::{Answers, run_lines};
+use epc_query::{Answers, Database, run_lines};
 use home_board::OLD_BOUND;
 use legal_plays::{Roll, results};
 use lines::{Counter, Kind, Order, lines_of};

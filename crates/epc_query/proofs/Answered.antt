@@ -15,13 +15,13 @@ use Rattle.race_model.specs.Queries.{rank_query, IsAccepted}
 use Rattle.race_model.specs.LocalEquations.{whole}
 use Rattle.race_model.specs.Replies.{IsPlayReply, IsChoicePart}
 use Rattle.race_model.specs.Replies.{IsMovesReply, IsReply, answered, refused, fraction_text}
-use Rattle.epc_query.specs.declared.reply.Choice.{Choice}
-use Rattle.epc_query.specs.declared.reply.Reply.{Reply}
-use Rattle.epc_query.specs.declared.reply.Reply.TheVariants.{Mean, Dist, Play, Loss, Moves, Rank, Refused}
-use Rattle.epc_query.specs.Texts.{IsTextOf, why, choice_text, list_text, position_text}
+use Rattle.query_text.specs.declared.reply.Choice.{Choice}
+use Rattle.query_text.specs.declared.reply.Reply.{Reply}
+use Rattle.query_text.specs.declared.reply.Reply.TheVariants.{Mean, Dist, Play, Loss, Moves, Rank, Refused}
+use Rattle.query_text.specs.Texts.{IsTextOf, why, choice_text, list_text, position_text}
 use Rattle.epc_query.specs.Answers.{HasLoss, AreChoices, IsReplyTo}
-use Rattle.epc_query.proofs.Parts.{same_dist}
-use Rattle.epc_query.proofs.Texts.{position_text_states}
+use Rattle.query_text.proofs.Parts.{same_dist}
+use Rattle.query_text.proofs.Texts.{position_text_states}
 
 -- the position that an accepted query of a play is about
 play_position : (bound : ℕ) (line : List ℕ) (x : Board) (v : Throw) → IsAccepted bound line

@@ -11,8 +11,8 @@ use Rattle.race_model.specs.Books.{Book, mean_in}
 use Rattle.race_model.specs.Files.{book_of}
 use Rattle.race_model.specs.Levels.{IsLevel, IsLevelLine}
 use Rattle.race_model.specs.Levels.{IsLevelIn}
-use Rattle.epc_query.specs.declared.reply.Level.{Level}
-use Rattle.epc_query.specs.Texts.{ratio_text, level_text}
+use Rattle.query_text.specs.declared.reply.Level.{Level}
+use Rattle.query_text.specs.Texts.{ratio_text, level_text}
 use Rattle.epc_query.specs.LevelMeans.{AreMeansOf, HasLevel}
 
 -- some position has this pip count

@@ -23,7 +23,7 @@ use Rattle.epc_query.specs.declared.run_fault.RunFault.TheVariants.{Read, Write,
 use Rattle.epc_query.specs.AnyFiles.{AnyFile, database_file, board_file, IsReplyBy}
 use Rattle.epc_query.specs.Runs.{AreReplies, HasReplies, HasPart, IsMovesLine, IsRecordsLine}
 use Rattle.epc_query.specs.Runs.{IsStoppedAt, IsRunStopped, IsFirstFeed, IsAnswered}
-use Rattle.epc_query.proofs.Held.{appends_same, part_after, part_all}
+use Rattle.query_text.proofs.Held.{appends_same, part_after, part_all}
 
 -- no replies
 pub no_replies : (f : AnyFile) (old : Option (List ℕ)) → HasReplies f [] old old

@@ -12,10 +12,10 @@ use Rattle.race_model.specs.Losses.{loss, IsMoveList}
 use Rattle.race_model.specs.Queries.{mean_query, dist_query, play_query, loss_query, moves_query}
 use Rattle.race_model.specs.Queries.{rank_query, IsRefused, IsAccepted}
 use Rattle.legal_plays.specs.MoveLists.{moves_of}
-use Rattle.epc_query.specs.declared.reply.Choice.{Choice}
-use Rattle.epc_query.specs.declared.reply.Reply.{Reply}
-use Rattle.epc_query.specs.declared.reply.Reply.TheVariants.{Mean, Dist, Play, Loss, Moves, Rank, Refused}
-use Rattle.epc_query.specs.Texts.{why}
+use Rattle.query_text.specs.declared.reply.Choice.{Choice}
+use Rattle.query_text.specs.declared.reply.Reply.{Reply}
+use Rattle.query_text.specs.declared.reply.Reply.TheVariants.{Mean, Dist, Play, Loss, Moves, Rank, Refused}
+use Rattle.query_text.specs.Texts.{why}
 
 -- the loss of a choice is that of its result
 abbrev pub HasLoss : List ℕ → Board → Throw → Choice → Type 0

@@ -8,15 +8,10 @@ use Rattle.certificate.specs.declared.query_fault.QueryFault.{QueryFault}
 use Rattle.certificate.specs.declared.query_fault.QueryFault.TheVariants.{OverBound, Finished, NotLegal, Memory, Read}
 use Rattle.epc_query.specs.declared.answer.Stop.{Stop}
 use Rattle.epc_query.specs.declared.answer.Stop.TheVariants.{Memory as NoMemory, Read as NoRead}
-use Rattle.epc_query.specs.declared.reply.Reply.{Reply}
-use Rattle.epc_query.specs.declared.reply.Reply.TheVariants.{Mean, Dist, Play, Loss, Moves, Rank, Refused}
-use Rattle.epc_query.specs.Texts.{why}
-
--- a database of this bound answers the query
-pub record IsAnswerable (bound : ℕ) (q : Query) : Type 0 where
-  pub within : pips (subject q) ≤ bound
-  pub unfinished : ¬ AsksOfFinished q
-  pub result : HasResult q
+use Rattle.query_text.specs.declared.reply.Reply.{Reply}
+use Rattle.query_text.specs.declared.reply.Reply.TheVariants.{Mean, Dist, Play, Loss, Moves, Rank, Refused}
+use Rattle.query_text.specs.Answerable.{IsAnswerable}
+use Rattle.query_text.specs.Texts.{why}
 
 -- the query asks for a list of moves
 abbrev pub AsksMoves : Query → Type 0

@@ -4,7 +4,7 @@ use Rattle.race_model.specs.Fractions.{IsMean}
 use Rattle.race_model.specs.Levels.{level_count, IsLevel}
 use Rattle.certificate.specs.declared.query_fault.QueryFault.{QueryFault}
 use Rattle.certificate.specs.declared.query_fault.QueryFault.TheVariants.{OverBound, Finished, NotLegal, Memory, Read}
-use Rattle.epc_query.specs.declared.reply.Level.{Level}
+use Rattle.query_text.specs.declared.reply.Level.{Level}
 
 -- the least and the greatest of the means of the ranks from one on and before another, where
 -- there are any

@@ -1,6 +1,3 @@
-pub mod Readings
-pub mod Texts
-pub mod Held
 pub mod Answers
 pub mod Faults
 pub mod Choices
@@ -8,3 +5,8 @@ pub mod AnyFiles
 pub mod Runs
 pub mod LevelMeans
 pub mod UsedReads
+pub mod Opened
+pub mod Rooms
+pub mod Accepted
+pub mod BookLevels
+pub mod Lists

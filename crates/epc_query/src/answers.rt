@@ -7,7 +7,7 @@ ghost use Rattle.epc_query.specs.Runs.{HasReplies, IsStoppedAt};
 ghost use Rattle.epc_query.specs.UsedReads.{IsLineFault};
 
 use crate::run_fault::RunFault;
-use crate::text::Text;
+use query_text::Text;
 use std::alloc::Global;
 use std::io::Write;
 

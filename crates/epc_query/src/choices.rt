@@ -5,9 +5,9 @@ ghost use Rattle.arrayvec.specs.ArrayVec.{array_vec_len};
 ghost use Rattle.race_model.specs.Positions.{finished};
 ghost use Rattle.epc_query.specs.Choices.{ComesFirst, IsByLoss};
 
-use crate::numbers::Number;
 use arrayvec::ArrayVec;
 use home_board::Position;
+use query_text::Number;
 
 /// How many positions a roll leads to at most.
 pub const MOST_RESULTS: usize = 127;

@@ -3,10 +3,10 @@
 ghost use Rattle.std.specs.Prelude.{ℕ, List, [], ◌∷◌, ◌++◌};
 ghost use Rattle.race_model.specs.Levels.{IsLevelLine};
 ghost use Rattle.race_model.specs.Replies.{IsReply};
-ghost use Rattle.epc_query.specs.declared.reply.Level.{Level};
-ghost use Rattle.epc_query.specs.declared.reply.Reply.{Reply};
+ghost use Rattle.query_text.specs.declared.reply.Level.{Level};
+ghost use Rattle.query_text.specs.declared.reply.Reply.{Reply};
 ghost use Rattle.epc_query.specs.LevelMeans.{HasLevel};
-ghost use Rattle.epc_query.specs.Texts.{IsTextOf, level_text};
+ghost use Rattle.query_text.specs.Texts.{IsTextOf, level_text};
 ghost use Rattle.epc_query.specs.Answers.{IsReplyTo};
 
 use race_model::laws::law_results;

@@ -8,10 +8,10 @@ ghost use Rattle.certificate.specs.Databases.{Stays};
 ghost use Rattle.epc_query.specs.LevelMeans.{AreMeansOf, HasLevel, IsLevelFault};
 
 use crate::losses::recorded_mean;
-use crate::reply::Level;
 use certificate::{Checked, QueryFault};
 use db_reader::Table;
 use fixed_fraction::{MOST, Scaled, mean};
+use query_text::Level;
 use race_model::laws;
 use ranking::{count_to, first_of};
 

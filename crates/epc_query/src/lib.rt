@@ -1,47 +1,58 @@
 //! Questions about positions in lines of text, and the replies: what a play costs, all results of
 //! a roll by what they cost, the levels of an audit, the answer to a line, and the answers to all
-//! lines of an input. It rests on `certificate` for the answers of an accepted table, whatever
-//! table that is, and on `race_model` for what a line asks, what its reply is, and how an input
-//! is cut into lines. The crates above may use that a loss is the least mean after a result less
-//! the least such mean among all results, that `moves` has every result once, in order, that
-//! `run` writes the replies to the lines that it read and nothing else, and for bytes of their own
-//! what a line asks (`accepted_query`) and the text of each reply, by numbers of either kind of
-//! file (`Number`).
+//! lines of an input; from a table, and from bytes that somebody lends, a database or a board file.
+//! It rests on `certificate` for the check of files and the answers of an accepted table, whatever
+//! table that is, on `db_layout` for the records of lent bytes, on `legal_plays` for plays and
+//! results, on `fixed_fraction` for exact numbers, on `query_text` for what a line asks and the
+//! texts of replies, and on `race_model` for what each answer is and how an input is cut into
+//! lines.
+//!
+//! The crates above may use that a loss is the least mean after a result less the least such mean
+//! among all results, that a list of moves has every result once, in order, that lent bytes are
+//! opened exactly where they are a right file, that each answer is what the definitions say of such
+//! a file, and that `run` writes the replies to the lines that it read and nothing else. What lent
+//! bytes say is a book, and all that is asked of a book is here once, for `Lent`, with no memory of
+//! its own and no state. Where somebody changes the bytes meanwhile no call reads beside them: what
+//! reads them, `lent_records` and `lent_board`, knows how many they are, and nothing of what they
+//! are.
 #![tactic(auto)]
 
 mod answer;
 mod answers;
+mod board_levels;
+mod board_lines;
 mod choices;
+mod database;
 pub mod laws;
+mod lent;
+mod lent_answers;
+mod lent_board;
+mod lent_levels;
+mod lent_moves;
+mod lent_records;
 mod levels;
-mod line_buffer;
 mod lines;
 mod losses;
 mod move_list;
-mod numbers;
-mod query;
 mod reads;
-mod refusals;
-mod reply;
+mod rising_records;
 mod run_fault;
 mod running;
-mod text;
-mod writing;
+mod turns;
+mod whole_board;
 
 pub use answer::{Stop, answer_line};
 pub use answers::Answers;
+pub use board_levels::{board_level, put_board_level};
+pub use board_lines::BoardLines;
 pub use choices::{MOST_RESULTS, RankedChoice, include_choice};
+pub use database::{Accepted, Database, accept};
+pub use lent_levels::BookLevel;
 pub use levels::audit_level;
 pub use losses::loss;
 pub use move_list::moves;
-pub use numbers::{Digits, Number};
-pub use query::{Query, read_mean};
-pub use refusals::accepted_query;
-pub use reply::{Choice, Level, Refusal, Reply};
+pub use query_text::{Choice, Level, Refusal, Reply, write_level, write_reply};
+pub use rising_records::RisingRecords;
 pub use run_fault::RunFault;
 pub use running::{run, run_lines};
-pub use text::{
-    Text, push_choice, put_dist, put_level, put_loss, put_mean, put_moves, put_play, put_rank,
-    put_refusal,
-};
-pub use writing::{write_level, write_line, write_reply};
+pub use whole_board::{Board, BoardText, MOST_ROLLS};

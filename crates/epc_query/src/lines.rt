@@ -9,9 +9,8 @@ ghost use Rattle.epc_query.specs.Runs.{HasReplies, IsStoppedAt, IsFirstFeed, IsA
 ghost use Rattle.epc_query.specs.UsedReads.{IsLineFault};
 
 use crate::answers::Answers;
-use crate::line_buffer::{LineBuffer, whole_line};
 use crate::run_fault::RunFault;
-use crate::text::Text;
+use query_text::{LineBuffer, Text, whole_line};
 use race_model::laws;
 use std::alloc::Global;
 use std::io::Write;

@@ -9,7 +9,8 @@ ghost use Rattle.race_model.specs.Losses.{loss, IsLoss};
 ghost use Rattle.race_model.specs.Queries.{loss_query};
 ghost use Rattle.db_reader.specs.Telling.{WhereTold};
 ghost use Rattle.certificate.specs.Databases.{Stays};
-ghost use Rattle.epc_query.specs.Faults.{IsAnswerable, IsFaultOf};
+ghost use Rattle.query_text.specs.Answerable.{IsAnswerable};
+ghost use Rattle.epc_query.specs.Faults.{IsFaultOf};
 
 use certificate::{Checked, QueryFault};
 use db_reader::Table;

@@ -13,17 +13,18 @@ ghost use Rattle.db_reader.specs.Telling.{WhereTold};
 ghost use Rattle.certificate.specs.Databases.{Stays};
 ghost use Rattle.epc_query.specs.Answers.{AreChoices};
 ghost use Rattle.epc_query.specs.Choices.{result_of};
-ghost use Rattle.epc_query.specs.Faults.{IsAnswerable, IsFaultOf};
+ghost use Rattle.query_text.specs.Answerable.{IsAnswerable};
+ghost use Rattle.epc_query.specs.Faults.{IsFaultOf};
 
 use crate::choices::{MOST_RESULTS, RankedChoice, include_choice};
 use crate::losses::{least_mean, lost_beside};
-use crate::reply::Choice;
 use arrayvec::ArrayVec;
 use certificate::{Checked, QueryFault};
 use db_reader::Table;
 use fixed_fraction::{Scaled, mean};
 use home_board::Position;
 use legal_plays::{Roll, results};
+use query_text::Choice;
 use race_model::laws;
 use std::alloc::Global;
 

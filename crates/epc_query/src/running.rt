@@ -10,13 +10,12 @@ ghost use Rattle.epc_query.specs.Runs.{HasReplies, IsStoppedAt, IsAnswered, IsRu
 ghost use Rattle.epc_query.specs.UsedReads.{HasUsed, IsLineFault, IsSpent};
 
 use crate::answers::Answers;
-use crate::line_buffer::LineBuffer;
 use crate::lines::{answer_chunk, answer_last, flush};
 use crate::reads::Reads;
 use crate::run_fault::RunFault;
-use crate::text::Text;
 use certificate::Checked;
 use db_reader::Table;
+use query_text::{LineBuffer, Text};
 use race_model::laws;
 use std::alloc::Global;
 use std::io::{Read, Write};

@@ -5,7 +5,7 @@
 //! their calls are in `failing_calls`.
 use crate::given::{accepted, answers, database, put};
 use db_reader::Whole;
-use epc_query::{Number, Text, put_loss};
+use query_text::{Number, Text, put_loss};
 use fixed_fraction::Scaled;
 use std::test::Fail;
 

@@ -6,10 +6,9 @@ use crate::plain_board::{
     number_at,
 };
 use crate::random::{Parts, Random, Takes, add_lines, damage};
-use book::{Board, BoardLines};
 use certificate::{Checked, check_board};
 use db_reader::Whole;
-use epc_query::{run, run_lines};
+use epc_query::{Board, BoardLines, run, run_lines};
 use home_board::Position;
 use legal_plays::Roll;
 use plain_model::legal_positions;

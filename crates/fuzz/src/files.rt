@@ -1,11 +1,10 @@
 //! Files and lines, answered in memory and by pages of which some reads fail.
 use crate::difference::Difference;
 use crate::random::{Parts, Random, Takes, add_lines, damage};
-use book::Database;
 use certificate::{CheckFault, Checked, check};
 use db_reader::trial::FailAt;
 use db_reader::{Paged, SliceSource, Table, Whole};
-use epc_query::{RunFault, run, run_lines};
+use epc_query::{Database, RunFault, run, run_lines};
 use ranking::{RankTable, Ranks};
 use std::alloc::Global;
 

@@ -7,7 +7,7 @@
 //! of which reads fail, with what they say of it in memory. Of board files it compares what the
 //! checker says of a damaged one with what a plain checker says, records with what a plain program
 //! wants there, and replies with those over a database of the same bound. It prints the seed of
-//! the first difference, and ends with status 1. It rests on `book`, `retrograde`, `certificate`
+//! the first difference, and ends with status 1. It rests on `epc_query`, `retrograde`, `certificate`
 //! and `plain_model`; nothing stands on it.
 #![tactic(auto)]
 
@@ -19,7 +19,7 @@ use crate::files::compare_files;
 use crate::plain::compare_positions;
 use crate::plain_board::{Places, PlainBoard};
 use crate::random::Random;
-use book::{Board, BoardLines};
+use epc_query::{Board, BoardLines};
 use certificate::{Checked, check, check_board};
 use db_reader::Whole;
 use ranking::{RankTable, Ranks};

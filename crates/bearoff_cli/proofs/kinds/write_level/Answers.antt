@@ -3,10 +3,10 @@ use Rattle.std.proofs.Common.{IfSome, rules, subst, sym}
 use Rattle.std.specs.Prelude.{OnErr, OnOk}
 use Rattle.race_model.specs.BoardFiles.{board_book}
 use Rattle.race_model.specs.Levels.{IsLevelLine, IsLevelLineIn}
-use Rattle.book.specs.Levels.{HasBoardLevel}
+use Rattle.epc_query.specs.BookLevels.{HasBoardLevel}
 use Rattle.epc_query.specs.AnyFiles.{board_file, database_file}
 use Rattle.epc_query.specs.LevelMeans.{HasLevel}
-use Rattle.epc_query.specs.Texts.{level_text}
+use Rattle.query_text.specs.Texts.{level_text}
 use Rattle.bearoff_cli.specs.FileAnswers.{WritesLevel}
 use Rattle.bearoff_cli.specs.Kinds.{file_of}
 use Rattle.bearoff_cli.specs.StoppedRuns.{WritesLevelPart}

@@ -1,6 +1,6 @@
 use Rattle.std.proofs.Common.{◌∙◌}
-use Rattle.epc_query.specs.Readings.{asked}
-use Rattle.epc_query.proofs.Stops.{accepted_by, answered_query}
+use Rattle.query_text.specs.Readings.{asked}
+use Rattle.query_text.proofs.AcceptedQueries.{accepted_by, answered_query}
 use Rattle.epc_query.proofs.answer.answer_line.Goals as goal
 
 pub ask-requires : goal.ask-requires

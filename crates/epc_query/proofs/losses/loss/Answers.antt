@@ -3,7 +3,7 @@ use Rattle.race_model.specs.Positions.{pips}
 use Rattle.race_model.specs.Plays.{Legal}
 use Rattle.race_model.specs.Files.{bound_of, book_of}
 use Rattle.race_model.proofs.RightFiles.Right.{short}
-use Rattle.epc_query.proofs.Held.{on_ok_of}
+use Rattle.query_text.proofs.Held.{on_ok_of}
 use Rattle.epc_query.proofs.losses.loss.Goals as goal
 
 pub returns-clause-lost : goal.returns-clause-lost

@@ -3,7 +3,7 @@ use Rattle.std.proofs.lemmas.List.{length_push, map_push, take_more}
 use Rattle.std.proofs.lemmas.List.Elements.{All-push}
 use Rattle.race_model.specs.LocalEquations.{whole}
 use Rattle.race_model.specs.Fractions.{IsFraction}
-use Rattle.epc_query.specs.declared.reply.Choice.{Choice}
+use Rattle.query_text.specs.declared.reply.Choice.{Choice}
 use Rattle.epc_query.specs.Choices.{result_of}
 use Rattle.epc_query.proofs.move_list.in_lowest_terms.Goals as goal
 

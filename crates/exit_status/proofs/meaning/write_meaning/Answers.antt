@@ -2,7 +2,7 @@
 use Rattle.std.proofs.Common.{◌++◌, Result, Ok, Err, OnOk, OnErr, ℕ, List, Option, codes, subst, ◌∙◌}
 use Rattle.std.specs.Io.KnownBytes.{Appends}
 use Rattle.db_layout.specs.Writes.{AppendsPart}
-use Rattle.epc_query.proofs.Held.{part_after, part_all, part_longer}
+use Rattle.query_text.proofs.Held.{part_after, part_all, part_longer}
 use Rattle.exit_status.specs.Meanings.{after_colon, meaning_of}
 use Rattle.exit_status.proofs.meaning.write_meaning.Goals as goal
 

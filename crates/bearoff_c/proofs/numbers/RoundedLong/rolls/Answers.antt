@@ -1,6 +1,6 @@
 use Rattle.std.proofs.Common.{arith}
 use Rattle.fixed_fraction.specs.Board.{board_whole}
-use Rattle.epc_query.proofs.Thousandths.{same_thousandths}
+use Rattle.query_text.proofs.Thousandths.{same_thousandths}
 use Rattle.bearoff_c.proofs.numbers.RoundedLong.rolls.Goals as goal
 
 pub returns-clause-rounded : goal.returns-clause-rounded

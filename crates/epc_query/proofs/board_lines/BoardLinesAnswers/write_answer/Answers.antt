@@ -1,0 +1,26 @@
+use Rattle.std.proofs.Common.{◌≡◌, ◌++◌, [], ◌∷◌, subst, arith}
+use Rattle.race_model.specs.BoardFiles.{board_book}
+use Rattle.race_model.specs.Replies.{IsReplyIn}
+use Rattle.epc_query.specs.AnyFiles.{board_file}
+use Rattle.epc_query.proofs.Runs.{one_reply, one_part}
+use Rattle.epc_query.proofs.board_lines.BoardLinesAnswers.write_answer.Goals as goal
+
+pub returns-in-Ok-clause-answered : goal.returns-in-Ok-clause-answered
+returns-in-Ok-clause-answered g c = λ file t.
+    let same : c.args.self.now.board ≡ file = cc in
+    let line = c.args.line.now in
+    one_reply (board_file file) line (c.answer.new.text.bytes ++ 10 ∷ []) _ _
+    (subst (λ f. IsReplyIn (board_book f) line (c.answer.new.text.bytes ++ 10 ∷ [])) same
+    c.answer.ensures.reply) (c.in-Ok.ensures {u = tt}).all
+
+pub returns-in-Err-clause-answered : goal.returns-in-Err-clause-answered
+returns-in-Err-clause-answered g c = λ file t.
+    let same : c.args.self.now.board ≡ file = cc in
+    let line = c.args.line.now in (
+      1,
+      omega arith,
+      one_part (board_file file) line (c.answer.new.text.bytes ++ 10 ∷ []) _ _
+          (subst (λ f. IsReplyIn (board_book f) line (c.answer.new.text.bytes ++ 10 ∷ [])) same
+          c.answer.ensures.reply)
+          (c.in-Err.ensures {u = tt}).part,
+    )

@@ -1,0 +1,40 @@
+use Rattle.std.proofs.Common.{◌≡◌, refl, subst, sym, ◌∙◌}
+use Rattle.race_model.specs.Files.{mean}
+use Rattle.race_model.specs.Ranks.{rank}
+use Rattle.race_model.specs.Strategies.{IsLeast}
+use Rattle.certificate.proofs.Accepted.{mean-of_lent}
+use Rattle.epc_query.proofs.Known.{known_least, known_mean, if_some_then}
+use Rattle.epc_query.proofs.database.Database.mean_ranked.Goals as goal
+use Rattle.epc_query.proofs.database.Database.mean_ranked.Goals.{After-mean}
+
+-- the number that is read is the recorded mean
+read : (c : After-mean) → c.mean.result ≡ mean c.args.self.now c.args.position.now
+read c =
+    let f = c.args.self.now in
+    let x = c.args.position.now in
+    c.mean.ensures
+    ∙ mean-of_lent f c.record_ranked.result x (rank x) c.record_ranked.ensures.record refl
+
+pub returns-clause-some : goal.returns-clause-some
+returns-clause-some c =
+    let f = c.args.self.now in
+    let x = c.args.position.now in
+    c.new.ensures.some.1 (rw (read (goal.at.returns-clause-some c).After-mean)
+    (known_mean f c.bound-bound.ensures.right x c.record_ranked.ensures.position c.requires.within))
+
+pub returns-clause-least : goal.returns-clause-least
+returns-clause-least c =
+    let f = c.args.self.now in
+    let x = c.args.position.now in
+    if_some_then (λ rolls. rolls ≡ c.mean.result) (IsLeast x) c.new.result c.new.ensures.value
+    (λ rolls is. subst (IsLeast x) (sym (is ∙ read (goal.at.returns-clause-least c).After-mean))
+    (known_least f c.bound-bound.ensures.right x c.record_ranked.ensures.position
+    c.requires.within))
+
+pub returns-clause-recorded : goal.returns-clause-recorded
+returns-clause-recorded c =
+    let f = c.args.self.now in
+    let x = c.args.position.now in
+    if_some_then (λ rolls. rolls ≡ c.mean.result) (λ rolls. rolls ≡ mean f x)
+    c.new.result c.new.ensures.value
+    (λ rolls is. is ∙ read (goal.at.returns-clause-recorded c).After-mean)

@@ -1,0 +1,17 @@
+use Rattle.std.proofs.Common.{arith}
+use Rattle.fixed_fraction.proofs.TwoParts.{power_within}
+use Rattle.epc_query.proofs.Counts.{told_some, no_upper}
+use Rattle.epc_query.proofs.whole_board.count_in.Goals as goal
+
+pub returns-in_ok-new-2-clause-value : goal.returns-in_ok-new-2-clause-value
+returns-in_ok-new-2-clause-value c =
+    let told = told_some c.args.pips c.args.k c.args.stored.now.bytes (omega arith) (omega arith) in
+    let none = no_upper c.args.k c.args.stored.now.bytes c.if-k-le11.true in
+    omega (arith, told, none, (c.in_ok-new-2.ensures {u = tt}).value)
+
+pub returns-else-k-le11-clause-some : goal.returns-else-k-le11-clause-some
+returns-else-k-le11-clause-some c =
+    let told = told_some c.args.pips c.args.k c.args.stored.now.bytes (omega arith) (omega arith) in
+    let most = power_within c.args.k 33 c.requires.few in
+    let written = c.requires.written (omega arith) (omega arith) in
+    c.new-else-k-le11.ensures.some.1 (omega (arith, told, most, written, c.requires.within))

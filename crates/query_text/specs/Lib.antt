@@ -1,0 +1,4 @@
+pub mod Readings
+pub mod Answerable
+pub mod Texts
+pub mod Held

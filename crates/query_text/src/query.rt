@@ -1,0 +1,204 @@
+//! What a line of input asks.
+ghost use Rattle.std.specs.Prelude.{◌≡◌, ◌≢◌, ℕ, ◌<◌, List, [], ◌∷◌, ◌++◌, ◌==◌, length, position, IfSome, MatchOption};
+ghost use Rattle.race_model.specs.Dice.{Throw};
+ghost use Rattle.race_model.specs.Queries.{mean_query, IsQuery, HasTooMany, IsRollText, words};
+ghost use Rattle.query_text.specs.Readings.{kind_text, IsPositionReading, IsThrowReading};
+ghost use Rattle.query_text.specs.Readings.{IsResultReading, IsRestReading, IsReading, both};
+
+use home_board::{Position, PositionFault, parse_position};
+use legal_plays::{Roll, parse_roll};
+use race_model::laws;
+
+/// What a line asks.
+#[derive(Clone, Copy, Debug, PartialEq, Eq)]
+pub enum Query {
+    /// The mean number of rolls of a position, and its effective pip count.
+    Mean(Position),
+
+    /// How the number of rolls of a position is spread.
+    Dist(Position),
+
+    /// What is played with a roll.
+    Play(Position, Roll),
+
+    /// What a result of a roll costs.
+    Loss(Position, Roll, Position),
+
+    /// All results of a roll, and what each costs.
+    Moves(Position, Roll),
+
+    /// The rank of a position.
+    Rank(Position),
+}
+
+/// Why a line asks nothing.
+#[derive(Clone, Copy, Debug, PartialEq, Eq)]
+pub(crate) enum LineFault {
+    /// It is not of the form of a query.
+    BadLine,
+
+    /// A position of it has more than 15 checkers.
+    TooMany,
+}
+
+/// The first word of a query, which says what is asked.
+#[derive(Clone, Copy, Debug, PartialEq, Eq)]
+enum Kind {
+    Mean,
+    Dist,
+    Play,
+    Loss,
+    Moves,
+    Rank,
+}
+
+/// What a line asks, which comes without its line feed. Refused as `BadLine` where it isn't of the
+/// form of a query, and else as `TooMany` where a position of it has more than 15 checkers (this
+/// project's profile).
+pub(crate) fn read_query(line: &[u8]) -> Result<Query, LineFault>
+    ensures { IsReading line.now result }
+{
+    laws::law_lines();
+    let Some((word, rest)) = cut(line) else {
+        return Err(LineFault::BadLine);
+    };
+    match read_kind(word) {
+        Some(kind) => read_rest(kind, rest),
+        None => Err(LineFault::BadLine),
+    }
+}
+
+/// The position whose mean a line asks for, where it asks for one and is not refused by what
+/// stands there: what `read_query` tells too, without a look at the words of other kinds.
+pub fn read_mean(line: &[u8]) -> Option<Position>
+    ensures { IfSome result (λ position. IsQuery line.now (mean_query position)
+        × (¬ HasTooMany (mean_query position))) }
+{
+    let [b'm', b'e', b'a', b'n', b' ', rest @ ..] = line else {
+        return None;
+    };
+    match read_position(rest) {
+        Ok(position) => Some(position),
+        Err(_) => None,
+    }
+}
+
+/// What a line of a kind asks, of which this is what stands after the first word.
+fn read_rest(kind: Kind, rest: &[u8]) -> Result<Query, LineFault>
+    ensures { IsRestReading kind rest.now result }
+{
+    match kind {
+        Kind::Mean => read_position(rest).map(Query::Mean),
+        Kind::Dist => read_position(rest).map(Query::Dist),
+        Kind::Play => read_throw(rest).map(|(position, roll)| Query::Play(position, roll)),
+        Kind::Loss => read_result(rest).map(|(position, roll, to)| Query::Loss(position, roll, to)),
+        Kind::Moves => read_throw(rest).map(|(position, roll)| Query::Moves(position, roll)),
+        Kind::Rank => read_position(rest).map(Query::Rank),
+    }
+}
+
+/// The kind of query that a word names.
+fn read_kind(word: &[u8]) -> Option<Kind>
+    ensures { MatchOption result ((kind : Kind) → word.now ≢ kind_text kind)
+        (λ kind. word.now ≡ kind_text kind) }
+{
+    match word {
+        b"mean" => Some(Kind::Mean),
+        b"dist" => Some(Kind::Dist),
+        b"play" => Some(Kind::Play),
+        b"loss" => Some(Kind::Loss),
+        b"moves" => Some(Kind::Moves),
+        b"rank" => Some(Kind::Rank),
+        _ => None,
+    }
+}
+
+/// The part of a text before its first space, and the part after it; none where there is no
+/// space.
+fn cut(text: &[u8]) -> Option<(&[u8], &[u8])>
+    ensures { MatchOption result (words text.now ≡ text.now ∷ [])
+        (λ parts. (text.now ≡ parts.0.now ++ (32 ∷ parts.1.now))
+        × (words text.now ≡ parts.0.now ∷ words parts.1.now)) }
+{
+    match first_space(text) {
+        Some(place) => Some((&text[..place], &text[place + 1..])),
+        None => None,
+    }
+}
+
+/// Where the first space of a text stands.
+fn first_space(text: &[u8]) -> Option<usize>
+    ensures place { result ≡ position (λ c. c == 32) text.now }
+    ensures within { IfSome result (λ place. place < length text.now) }
+{
+    text.iter().position(|byte| *byte == b' ')
+}
+
+/// The position that a text states.
+fn read_position(text: &[u8]) -> Result<Position, LineFault>
+    ensures { IsPositionReading text.now result }
+{
+    match parse_position(text) {
+        Ok(position) => {
+            let _checkers = position.checkers();
+            Ok(position)
+        }
+        Err(PositionFault::BadText) => Err(LineFault::BadLine),
+        Err(PositionFault::TooMany) => Err(LineFault::TooMany),
+    }
+}
+
+/// The roll that a text states.
+fn read_roll(text: &[u8]) -> Option<Roll>
+    ensures { MatchOption result ((v : Throw) → ¬ IsRollText text.now v) (IsRollText text.now) }
+{
+    parse_roll(text)
+}
+
+/// The position and the roll that a text states, with a space between.
+fn read_throw(text: &[u8]) -> Result<(Position, Roll), LineFault>
+    ensures { IsThrowReading text.now result }
+{
+    let Some((position, roll)) = cut(text) else {
+        return Err(LineFault::BadLine);
+    };
+    let Some(roll) = read_roll(roll) else {
+        return Err(LineFault::BadLine);
+    };
+    match read_position(position) {
+        Ok(position) => Ok((position, roll)),
+        Err(fault) => Err(fault),
+    }
+}
+
+/// The position, the roll and the result that a text states, with a space between each two.
+fn read_result(text: &[u8]) -> Result<(Position, Roll, Position), LineFault>
+    ensures { IsResultReading text.now result }
+{
+    let Some((position, rest)) = cut(text) else {
+        return Err(LineFault::BadLine);
+    };
+    let Some((roll, to)) = cut(rest) else {
+        return Err(LineFault::BadLine);
+    };
+    let Some(roll) = read_roll(roll) else {
+        return Err(LineFault::BadLine);
+    };
+    both(read_position(position), roll, read_position(to))
+}
+
+/// Two positions and a roll, where both could be read: a text that states none comes before one
+/// with too many checkers.
+fn both(
+    position: Result<Position, LineFault>,
+    roll: Roll,
+    to: Result<Position, LineFault>,
+) -> Result<(Position, Roll, Position), LineFault>
+    ensures { result ≡ both position roll to }
+{
+    match (position, to) {
+        (Ok(position), Ok(to)) => Ok((position, roll, to)),
+        (Err(LineFault::BadLine), _) | (_, Err(LineFault::BadLine)) => Err(LineFault::BadLine),
+        _ => Err(LineFault::TooMany),
+    }
+}
