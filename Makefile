@@ -37,7 +37,7 @@ SCRIPTS := git ls-files '*.py' && \
 
 .PHONY: help always needs prove library page work-page js tested trials install uninstall release
 .PHONY: unproved quick
-.PHONY: reference second-opinion format check test test-python test-node
+.PHONY: reference pictures second-opinion format check test test-python test-node
 .DELETE_ON_ERROR:
 
 help:
@@ -50,6 +50,7 @@ help:
 	@echo 'make work-page          $(WORK_PAGE), the same with source maps, for work on it'
 	@echo 'make js                 $(PACKAGE)'
 	@echo 'make reference          $(OUT)/ref, of the comments and contracts of the sources'
+	@echo 'make pictures           what docs/ shows of the page, by Chromium'
 	@echo 'make second-opinion     the theorem in Coq, proved, and the checker that Coq makes'
 	@echo 'make format             lays out the Python and the C of tests, by black and clang-format'
 	@printf 'make install            into PREFIX (%s), below DESTDIR where that is set\n' "$$PREFIX"
@@ -89,6 +90,13 @@ $(PACKAGE): $(MODULES) $(wildcard js/*.js js/*.d.ts js/*.json) js/README.md VERS
 
 reference:
 	tools/reference $(OUT)/ref
+
+# what docs/ shows of the page, and a sum of what is to be read there
+pictures: page tested
+	to=$$(mktemp -d) && BROWSERS=chromium PARTS=pictures PICTURES=$$to node --test tests/page/drive.test.mjs && \
+		cp $$to/start-1180.png docs/page.png && cp $$to/start-360.png docs/page-telephone.png && \
+		cp $$to/lesson-1180.png docs/page-lesson.png && cp $$to/drill-1180.png docs/page-drill.png && \
+		cp $$to/pictures.txt docs/ && rm -r $$to
 
 second-opinion:
 	tests/needs.py coqc

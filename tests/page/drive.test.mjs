@@ -2,6 +2,7 @@
 // and compares what it shows with the program's replies. The variable BROWSERS names those to be driven,
 // PARTS the parts alone that are, and PICTURES a folder for a picture of each width and colours.
 import { execFileSync, spawn } from "node:child_process";
+import { createHash } from "node:crypto";
 import { readFileSync, writeFileSync } from "node:fs";
 import { createServer } from "node:http";
 import { availableParallelism } from "node:os";
@@ -13,7 +14,7 @@ import { positions } from "../../web/themes.js";
 import { readLessons } from "../../web/trainer.js";
 import { audit } from "./audit.mjs";
 import { legalFrom } from "./stand_in.mjs";
-import { effectOf, equal as same, isJoined, pagePath, part, programPath, testedFolder,
+import { effectOf, equal as same, isJoined, pagePath, part, programPath, ROOT, testedFolder,
     wrong as fault } from "./given.mjs";
 
 const address = pathToFileURL(pagePath()).href;
@@ -1649,11 +1650,17 @@ const PICTURED = [
     ["embedded", "#view=board&at=7,4,2,0,0,0", ".figures", ""],
 ];
 
+// The pictures of docs/, by the names of what is pictured: docs/pictures.txt has of each a sum of what is to be read and
+// pressed there, so that none is of another page. `make pictures` takes them anew.
+const OF_DOCS = { "start 1180": "page", "start 360": "page-telephone", "lesson 1180": "page-lesson", "drill 1180": "page-drill" };
+const WORDS_THERE = `[...document.querySelectorAll("h1, h2, h3, label, button, #lessons a")].map((it) => it.innerText.trim()).join("\\n")`;
+
 // Pictures of what the page is used for, on a telephone and on a desk: nothing in them is cut off,
 // lies over something else, or is too faint to read. The start is looked at in more widths and
 // colours.
 async function takePictures(browser) {
     const all = { texts: 0, things: 0, shapes: 0, contrasts: 0 };
+    const sums = [];
     const look = async (page, name) => {
         const { faults, counts } = await page.value(LAID_OUT);
         for (const fault of faults.slice(0, 12)) wrong(`${name}: ${fault}`);
@@ -1671,6 +1678,10 @@ async function takePictures(browser) {
             await page.until(`document.querySelector(${JSON.stringify(then)}) && !(document.querySelector("#numbers, #steering").textContent.includes("\u2026"))`);
             await wait(200);
             await look(page, name);
+            if (OF_DOCS[name]) {
+                const sum = createHash("sha256").update(await page.value(WORDS_THERE)).digest("hex");
+                sums.push(`${OF_DOCS[name]}.png ${sum.slice(0, 16)}`);
+            }
             equal(`${name}: nothing stands out`, await page.value("document.documentElement.scrollWidth"), width);
             const { faults, compared } = await audit(page, false);
             for (const fault of faults) wrong(`${name}: ${fault}`);
@@ -1689,6 +1700,8 @@ async function takePictures(browser) {
             await page.close();
         }
     }
+    if (pictures) writeFileSync(join(pictures, "pictures.txt"), `${sums.sort().join("\n")}\n`);
+    else equal("the pictures of docs/ are of this page", sums.sort().join("\n"), readFileSync(join(ROOT, "docs/pictures.txt"), "utf8").trim());
     console.log(`page: ${all.texts} texts, ${all.things} things to press and ${all.shapes} shapes were in their places, and ${all.contrasts} contrasts enough`);
 }
 
