@@ -42,8 +42,7 @@ DRAFT = "crates/whole_file/src/draft.rt"
 SYSTEM = "crates/whole_file/src/system.rt"
 MAIN = "crates/bearoff_cli/src/main.rt"
 READS = "crates/epc_query/src/reads.rt"
-BOARD_LINES = "crates/epc_query/src/board_lines.rt"
-DATABASE = "crates/epc_query/src/database.rt"
+ANSWERS = "crates/epc_query/src/answers.rt"
 WORDS = "crates/command_line/src/words.rt"
 CHECKED = "crates/certificate/src/checked.rt"
 FILE_SOURCE = "crates/db_reader/src/file_source.rt"
@@ -447,18 +446,18 @@ PLANTED = [
     ),
     (
         "lines_over_a_board_blame_the_file",
-        BOARD_LINES,
-        "        let Some(()) = self.board.answer(line, &mut self.text) else {",
-        "        if line.len() > 40 { return Err(RunFault::Table); }\n"
-        "        let Some(()) = self.board.answer(line, &mut self.text) else {",
+        ANSWERS,
+        "        let Some(()) = answer(self, line, text) else {",
+        "        if line.len() > 40 && ROOM > 12_288 { return Err(RunFault::Table); }\n"
+        "        let Some(()) = answer(self, line, text) else {",
         "rows TestBoards::test_query[long]",
     ),
     (
         "lines_over_a_database_blame_the_file",
-        DATABASE,
-        "        let Some(()) = self.answer(line, text) else {",
+        ANSWERS,
+        "        let Some(()) = answer(self, line, text) else {",
         "        if line.len() > 40 { return Err(RunFault::Table); }\n"
-        "        let Some(()) = self.answer(line, text) else {",
+        "        let Some(()) = answer(self, line, text) else {",
         "rows TestLongLines",
     ),
     (

@@ -23,7 +23,7 @@ use command_line::FileKind;
 use db_layout::{BOARD_BOUND, BOARD_VERSION, BoardHeader, read_short};
 use epc_query::laws::law_level_text;
 use epc_query::{
-    Accepted, Board, BoardLines, BoardText, Database, RunFault, board_level, put_board_level, run_lines,
+    Accepted, Board, BoardText, Database, RunFault, Text, board_level, put_board_level, run_lines,
 };
 use exit_status::Fault;
 use home_board::MAX_BOUND;
@@ -154,12 +154,12 @@ fn run_kept<I: Read, O: Write>(
     match kind {
         FileKind::Database => {
             let mut database = Database::kept(bytes, kept, &ranks);
-            run_lines(alloc, &mut database, input, output, TURNS)
+            run_lines(alloc, &mut database, &mut Text::new(), input, output, TURNS)
         }
         FileKind::Board => {
             let header = BoardHeader::new(kept.bound).unwrap();
-            let mut lines = BoardLines::new(Board::accepted(bytes, header, &ranks));
-            run_lines(alloc, &mut lines, input, output, TURNS)
+            let mut board = Board::accepted(bytes, header, &ranks);
+            run_lines(alloc, &mut board, &mut BoardText::new(), input, output, TURNS)
         }
     }
 }

@@ -22,7 +22,7 @@
 
 use certificate::check;
 use db_reader::{Paged, SliceSource, Table};
-use epc_query::{Answers, Database, run_lines};
+use epc_query::{Answers, Database, Text, run_lines};
 use home_board::OLD_BOUND;
 use legal_plays::{Roll, results};
 use lines::{Counter, Kind, Order, lines_of};
@@ -199,7 +199,7 @@ fn report_table<R: Print + Clock, T: Table + Drop>(
 }
 
 /// Answers lines five times, and says how many a second in the fastest run.
-fn report_lines<R: Print + Clock, A: Answers>(
+fn report_lines<R: Print + Clock, A: Answers<12288>>(
     rt: &R,
     alloc: Global,
     request: Request,
@@ -207,12 +207,13 @@ fn report_lines<R: Print + Clock, A: Answers>(
     answers: &mut A,
 ) -> io::Result<()> {
     let lines = lines_of(alloc, kind, request.order, request.count, request.bound)?;
+    let mut text = Text::new();
     let mut fastest = u128::MAX;
     for _ in 0..5 {
         let mut reader = lines.as_slice();
         let mut counter = Counter { calls: 0, bytes: 0 };
         let start = Instant::now(rt)?;
-        let told = run_lines(alloc, answers, &mut reader, &mut counter, u64::MAX);
+        let told = run_lines(alloc, answers, &mut text, &mut reader, &mut counter, u64::MAX);
         let taken = start.elapsed(rt)?.as_micros();
         match told {
             Ok(_) => fastest = fastest.min(taken),

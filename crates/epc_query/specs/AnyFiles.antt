@@ -1,13 +1,10 @@
 -- A file that lines are answered from, of either kind. Source: this project's profile.
 use Rattle.std.specs.Prelude.{ℕ, List}
 use Rattle.race_model.specs.Files.{bound_of}
-use Rattle.race_model.specs.RightFiles.{IsRightDatabase}
-use Rattle.race_model.specs.Replies.{IsReply}
-use Rattle.race_model.specs.Levels.{IsLevelLine}
 use Rattle.race_model.specs.BoardFiles.{board_book}
-use Rattle.race_model.specs.RightFiles.{IsRightBoard}
-use Rattle.race_model.specs.Replies.{IsReplyIn}
-use Rattle.race_model.specs.Levels.{IsLevelLineIn}
+use Rattle.race_model.specs.RightFiles.{IsRightDatabase, IsRightBoard}
+use Rattle.race_model.specs.Replies.{IsReply, IsReplyIn}
+use Rattle.race_model.specs.Levels.{IsLevelLine, IsLevelLineIn}
 
 -- a database file, or a board file, by its bytes
 pub data AnyFile : Type 0 where

@@ -10,7 +10,7 @@ use Rattle.epc_query.specs.declared.answer.Stop.{Stop}
 use Rattle.epc_query.specs.declared.answer.Stop.TheVariants.{Memory as NoMemory, Read as NoRead}
 use Rattle.query_text.specs.declared.reply.Reply.{Reply}
 use Rattle.query_text.specs.declared.reply.Reply.TheVariants.{Mean, Dist, Play, Loss, Moves, Rank, Refused}
-use Rattle.query_text.specs.Answerable.{IsAnswerable}
+use Rattle.query_text.specs.Readings.{IsAnswerable}
 use Rattle.query_text.specs.Texts.{why}
 
 -- the query asks for a list of moves
@@ -34,12 +34,12 @@ AsksRecords (rank_query x) = ⊥
 -- the query is refused so: the first cause that applies, in this order; want of memory and of a
 -- read come only to a query that would be answered, want of memory only to a list of moves, and
 -- want of a read only where records are asked for
-abbrev pub IsFaultOf : ℕ → Query → QueryFault → Type 0
-IsFaultOf bound q OverBound = bound < pips (subject q)
-IsFaultOf bound q Finished = (pips (subject q) ≤ bound) × AsksOfFinished q
-IsFaultOf bound q NotLegal = (pips (subject q) ≤ bound) × (¬ AsksOfFinished q) × (¬ HasResult q)
-IsFaultOf bound q Memory = IsAnswerable bound q × AsksMoves q
-IsFaultOf bound q Read = IsAnswerable bound q × AsksRecords q
+abbrev pub IsFaultOfQuery : ℕ → Query → QueryFault → Type 0
+IsFaultOfQuery bound q OverBound = bound < pips (subject q)
+IsFaultOfQuery bound q Finished = (pips (subject q) ≤ bound) × AsksOfFinished q
+IsFaultOfQuery bound q NotLegal = (pips (subject q) ≤ bound) × (¬ AsksOfFinished q) × (¬ HasResult q)
+IsFaultOfQuery bound q Memory = IsAnswerable bound q × AsksMoves q
+IsFaultOfQuery bound q Read = IsAnswerable bound q × AsksRecords q
 
 -- the reply says why the line is refused, or the line asks a query that is accepted
 abbrev pub IsHeard : ℕ → List ℕ → Reply → Type 0

@@ -7,6 +7,5 @@ pub mod LevelMeans
 pub mod UsedReads
 pub mod Opened
 pub mod Rooms
-pub mod Accepted
 pub mod BookLevels
 pub mod Lists

@@ -4,11 +4,10 @@ ghost use Rattle.race_model.specs.Files.{bound_of};
 ghost use Rattle.race_model.specs.Queries.{IsAccepted};
 ghost use Rattle.db_reader.specs.Telling.{WhereTold};
 ghost use Rattle.certificate.specs.Databases.{Stays};
-ghost use Rattle.query_text.specs.Readings.{asked};
+ghost use Rattle.query_text.specs.Readings.{asked, IsAnswerable};
 ghost use Rattle.epc_query.specs.AnyFiles.{database_file};
 ghost use Rattle.epc_query.specs.Answers.{IsReplyTo};
-ghost use Rattle.query_text.specs.Answerable.{IsAnswerable};
-ghost use Rattle.epc_query.specs.Faults.{IsFaultOf, IsHeard, IsStopOf};
+ghost use Rattle.epc_query.specs.Faults.{IsFaultOfQuery, IsHeard, IsStopOf};
 
 use crate::answers::Answers;
 use crate::losses::loss;
@@ -43,7 +42,7 @@ fn ask<T: Table>(alloc: Global, checked: &mut Checked<T>, query: Query) -> Resul
         → IsAccepted (bound_of file) line (asked query) → IsReplyTo file line reply)) }
     ensures heard { IfOk result (λ reply. (bound : ℕ) (line : List ℕ)
         → IsAccepted bound line (asked query) → IsHeard bound line reply) }
-    ensures fault { IfErr result (IsFaultOf (checked.old.bound) (asked query)) }
+    ensures fault { IfErr result (IsFaultOfQuery (checked.old.bound) (asked query)) }
     ensures stays { Stays checked.old checked.new (result ≡ Err QueryFault.Read) }
 {
     match query {
@@ -98,7 +97,7 @@ pub fn answer_line<T: Table>(
 }
 
 /// An accepted table answers lines by its replies.
-impl<T: Table> Answers for Checked<T> {
+impl<T: Table> Answers<12288> for Checked<T> {
     ghost seen = { λ checked. checked };
 
     ghost kind = { database_file };

@@ -1,5 +1,5 @@
 //! A database in bytes that somebody lends, and what it says of a position.
-ghost use Rattle.std.specs.Prelude.{◌≡◌, ℕ, ◌≤◌, ◌↔◌, [], ◌∷◌, ◌++◌, Err, IsOk, IfOk, IfErr, Some};
+ghost use Rattle.std.specs.Prelude.{◌≡◌, ℕ, ◌+◌, ◌*◌, ◌≤◌, ◌↔◌, [], ◌∷◌, ◌++◌, Err, IsOk, IfOk, IfErr, Some};
 ghost use Rattle.std.specs.Prelude.{IsSome, IfSome, All, map, slice_index};
 ghost use Rattle.arrayvec.specs.ArrayString.{array_string_len};
 ghost use Rattle.race_model.specs.Positions.{IsPosition, pips as pips_of};
@@ -9,7 +9,7 @@ ghost use Rattle.race_model.specs.Plays.{Legal};
 ghost use Rattle.race_model.specs.FirstPlays.{IsFirstPlay};
 ghost use Rattle.race_model.specs.Fractions.{IsFraction};
 ghost use Rattle.race_model.specs.Files.{version_of, bound_of, book_of, record_at, mean as mean_of};
-ghost use Rattle.race_model.specs.Files.{mean_at, play as play_of, spread as spread_of};
+ghost use Rattle.race_model.specs.Files.{spread as spread_of};
 ghost use Rattle.race_model.specs.LocalEquations.{whole, recorded};
 ghost use Rattle.race_model.specs.Losses.{loss as loss_of, IsLoss, IsMoveListIn};
 ghost use Rattle.race_model.specs.Replies.{IsReply};
@@ -23,26 +23,22 @@ ghost use Rattle.epc_query.specs.LevelMeans.{HasLevel};
 ghost use Rattle.epc_query.specs.Choices.{result_of};
 ghost use Rattle.epc_query.specs.Opened.{IsOpened};
 
-use crate::answers::Answers;
 use crate::choices::{MOST_RESULTS, RankedChoice};
 use crate::lent::{Lent, Replies};
 use crate::lent_answers::answer;
 use crate::lent_levels::find_level;
 use crate::lent_moves::{list, put_list};
 use crate::lent_records::LentRecords;
-use crate::run_fault::RunFault;
 use crate::turns;
-use arrayvec::{ArrayString, ArrayVec};
+use arrayvec::ArrayVec;
 use certificate::{CheckFault, check, spread_in};
-use db_layout::{RecordView, WriteFault, offset_of};
+use db_layout::{RecordView, offset_of};
 use db_reader::Whole;
 use fixed_fraction::{Fraction, Scaled, Spread, mean};
 use home_board::Position;
 use legal_plays::{Play, Roll};
-use query_text::{Level, Text, put_dist, write_line};
+use query_text::{Level, Text, put_dist};
 use ranking::RankTable;
-use std::alloc::Global;
-use std::io::Write;
 use std::marker::Model;
 
 /// A database in bytes that somebody lends, which are a right file: for each position of at most
@@ -195,18 +191,6 @@ impl<'a> Database<'a> {
         self.record_ranked(position, self.ranks.rank(position))
     }
 
-    /// The mean of a position of at most the bound, whose rank is known.
-    pub(crate) fn mean_ranked(&self, position: &Position, rank: u16) -> Option<Scaled>
-        requires within { pips_of position.now ≤ bound_of self.now }
-        requires rank { rank ≡ rank_of position.now }
-        ensures some { IsSome result }
-        ensures least { IfSome result (IsLeast position.now) }
-        ensures recorded { IfSome result (λ rolls. rolls ≡ mean_of self.now position.now) }
-    {
-        let _bound = self.bound();
-        Scaled::new(self.record_ranked(position, rank).mean())
-    }
-
     /// The least mean number of rolls of a position of at most the bound over all strategies, also
     /// those that look at the history, as a numerator over 36 ^ 22.
     pub fn mean(&self, position: &Position) -> Option<Scaled>
@@ -215,6 +199,8 @@ impl<'a> Database<'a> {
         ensures least { IfSome result (IsLeast position.now) }
         ensures recorded { IfSome result (λ rolls. rolls ≡ mean_of self.now position.now) }
     {
+        let _bound = self.bound();
+        let _pips = position.pips();
         self.mean_ranked(position, self.ranks.rank(position))
     }
 
@@ -244,35 +230,6 @@ impl<'a> Database<'a> {
         ensures legal { IfSome result (λ answer. Legal position.now roll answer.1) }
     {
         turns::play(self, position, roll)
-    }
-
-    /// The least mean after a roll from a position of at most the bound: that after the recorded
-    /// play.
-    pub fn least_mean(&self, position: &Position, roll: Roll) -> Option<Scaled>
-        requires { pips_of position.now ≤ bound_of self.now }
-        ensures some { IsSome result }
-        ensures recorded { IfSome result (λ least.
-            least ≡ mean_at self.now (play_of self.now position.now roll)) }
-    {
-        turns::least_mean(self, position, roll)
-    }
-
-    /// What a result of a roll costs beside the least mean, in rolls.
-    pub fn lost(
-        &self,
-        position: &Position,
-        roll: Roll,
-        least: Scaled,
-        to: &Position,
-    ) -> Option<Scaled>
-        requires within { pips_of position.now ≤ bound_of self.now }
-        requires legal { Legal position.now roll to.now }
-        requires least { least ≡ mean_at self.now (play_of self.now position.now roll) }
-        ensures some { IsSome result }
-        ensures loss { IfSome result (λ lost.
-            lost ≡ loss_of self.now position.now roll to.now) }
-    {
-        turns::lost(self, position, roll, least, to)
     }
 
     /// What a result of a roll costs: the mean number of rolls after it less the least such mean
@@ -346,6 +303,10 @@ impl<'a> Database<'a> {
 impl<'a> Lent for Database<'a> {
     type Mean = Scaled;
 
+    ghost bytes = { λ database. database };
+
+    ghost kind = { database_file };
+
     ghost book = { book_of };
 
     fn bound(&self) -> u8 {
@@ -357,7 +318,8 @@ impl<'a> Lent for Database<'a> {
     }
 
     fn mean_ranked(&self, position: &Position, rank: u16) -> Option<Scaled> {
-        Database::mean_ranked(self, position, rank)
+        let _bound = Database::bound(self);
+        Scaled::new(self.record_ranked(position, rank).mean())
     }
 
     fn recorded(&self, position: &Position, roll: Roll) -> Option<u16> {
@@ -366,51 +328,23 @@ impl<'a> Lent for Database<'a> {
 }
 
 /// Its shares and its lists, as texts.
-impl<'a, const ROOM: usize> Replies<ROOM> for Database<'a> {
+impl<'a> Replies<12288> for Database<'a> {
+    fn has_room()
+        ensures { 254 * 40 + 1911 ≤ 12288 }
+    {
+    }
+
     // so that its room is not part of its caller's
     #[inline(never)]
-    fn put_dist(&self, position: &Position, text: &mut ArrayString<ROOM>) -> Option<()> {
+    fn put_dist(&self, position: &Position, text: &mut Text) -> Option<()> {
         let spread = self.spread(position)?;
-        put_dist::<Scaled, ROOM>(text, &spread);
+        put_dist::<Scaled, 12288>(text, &spread);
         Some(())
     }
 
     // so that its room is not part of its caller's
     #[inline(never)]
-    fn put_moves(
-        &self,
-        position: &Position,
-        roll: Roll,
-        text: &mut ArrayString<ROOM>,
-    ) -> Option<()> {
+    fn put_moves(&self, position: &Position, roll: Roll, text: &mut Text) -> Option<()> {
         put_list(self, position, roll, &mut ArrayVec::new(), text)
-    }
-}
-
-/// A database answers lines by their texts.
-impl<'a> Answers for Database<'a> {
-    ghost seen = { λ database. record {
-      told = Some database;
-      bound = bound_of database;
-      version = version_of database;
-      failures = 0;
-    } };
-
-    ghost kind = { database_file };
-
-    fn write_answer<W: Write>(
-        &mut self,
-        _alloc: Global,
-        line: &[u8],
-        text: &mut Text,
-        writer: &mut W,
-    ) -> Result<(), RunFault> {
-        let Some(()) = self.answer(line, text) else {
-            return Err(RunFault::Table);
-        };
-        match write_line(text, writer) {
-            Ok(()) => Ok(()),
-            Err(WriteFault) => Err(RunFault::Write),
-        }
     }
 }

@@ -1,13 +1,14 @@
 //! Bytes that were accepted, of whichever kind of file, by what they say.
-ghost use Rattle.std.specs.Prelude.{◌≡◌, suc, ◌+◌, ◌*◌, ◌≤◌, IsSome, IfSome};
+ghost use Rattle.std.specs.Prelude.{◌≡◌, ℕ, suc, ◌+◌, ◌*◌, ◌≤◌, List, IsSome, IfSome};
 ghost use Rattle.arrayvec.specs.ArrayString.{array_string_len};
 ghost use Rattle.race_model.specs.Positions.{pips};
 ghost use Rattle.race_model.specs.Ranks.{rank as rank_of};
 ghost use Rattle.race_model.specs.Books.{Book, mean_in, play_in, IsRightBook};
 ghost use Rattle.race_model.specs.LocalEquations.{IsLong};
 ghost use Rattle.race_model.specs.Queries.{dist_query, moves_query};
-ghost use Rattle.race_model.specs.Replies.{IsAnswerOver};
+ghost use Rattle.race_model.specs.Replies.{IsAnswerOver, IsReplyOver};
 ghost use Rattle.ranking.specs.Tables.{IsRankTable};
+ghost use Rattle.epc_query.specs.AnyFiles.{AnyFile, IsReplyBy};
 
 use arrayvec::ArrayString;
 use home_board::Position;
@@ -21,7 +22,13 @@ pub trait Lent {
     /// The means.
     type Mean: Number;
 
-    // what the bytes say
+    // the bytes
+    ghost bytes: { Self → List ℕ };
+
+    // of which kind they are
+    ghost kind: { List ℕ → AnyFile };
+
+    // what they say
     ghost book: { Self → Book };
 
     /// The pip bound.
@@ -30,6 +37,9 @@ pub trait Lent {
         ensures right { IsRightBook (book self.now) }
         ensures long { IsLong (book self.now) }
         ensures rolls { suc (book self.now).further ≡ Self.Mean.most }
+        ensures replies { (line text : List ℕ)
+            → IsReplyOver Self.Mean.whole (book self.now) line text
+            → IsReplyBy (kind (bytes self.now)) line text }
         ensures range { result ≤ 90 };
 
     /// The table of ranks.
@@ -55,6 +65,10 @@ pub trait Lent {
 /// The replies that need a room for shares or for a list, whose size is known where the kind of
 /// bytes is, in texts with so much room.
 pub trait Replies<const ROOM: usize>: Lent {
+    /// There is room for any reply and a line feed. It does nothing.
+    fn has_room()
+        ensures { 254 * Self.Mean.Part.most + 1911 ≤ ROOM };
+
     /// Makes a text how the number of rolls of a position of at most the bound is spread.
     fn put_dist(&self, position: &Position, text: &mut ArrayString<ROOM>) -> Option<()>
         requires within { pips position.now ≤ (Self.book self.now).bound }

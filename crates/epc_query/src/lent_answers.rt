@@ -5,8 +5,7 @@ ghost use Rattle.race_model.specs.Positions.{pips};
 ghost use Rattle.race_model.specs.Plays.{Legal};
 ghost use Rattle.race_model.specs.Queries.{mean_query, play_query, loss_query};
 ghost use Rattle.race_model.specs.Replies.{IsAnswerOver, IsReplyOver};
-ghost use Rattle.query_text.specs.Readings.{asked};
-ghost use Rattle.query_text.specs.Answerable.{IsAnswerable};
+ghost use Rattle.query_text.specs.Readings.{asked, IsAnswerable};
 
 use crate::lent::{Lent, Replies};
 use crate::turns::{loss, play};

@@ -10,7 +10,7 @@ ghost use Rattle.epc_query.specs.Lists.{IsPartOf, IsListText};
 
 use crate::choices::{MOST_RESULTS, RankedChoice, include_choice};
 use crate::lent::Lent;
-use crate::turns::{least_mean, lost_ranked};
+use crate::turns::{least_mean, lost};
 use arrayvec::{ArrayString, ArrayVec};
 use home_board::Position;
 use legal_plays::{Roll, results};
@@ -41,7 +41,7 @@ pub(crate) fn list<L: Lent>(
     let least = least_mean(lent, position, roll)?;
     for to in found.as_slice() {
         let rank = lent.ranks().rank(to);
-        let loss = lost_ranked(lent, position, roll, least, to, rank)?;
+        let loss = lost(lent, position, roll, least, to, rank)?;
         include_choice(
             choices,
             RankedChoice {

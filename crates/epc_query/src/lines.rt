@@ -10,7 +10,8 @@ ghost use Rattle.epc_query.specs.UsedReads.{IsLineFault};
 
 use crate::answers::Answers;
 use crate::run_fault::RunFault;
-use query_text::{LineBuffer, Text, whole_line};
+use arrayvec::ArrayString;
+use query_text::{LineBuffer, whole_line};
 use race_model::laws;
 use std::alloc::Global;
 use std::io::Write;
@@ -28,12 +29,12 @@ fn first_feed(bytes: &[u8]) -> Option<usize>
 }
 
 /// Answers the line that some bytes without a line feed end, after those that are kept.
-fn answer_piece<A: Answers, W: Write>(
+fn answer_piece<const ROOM: usize, A: Answers<ROOM>, W: Write>(
     alloc: Global,
     answers: &mut A,
     held: &mut LineBuffer,
     piece: &[u8],
-    text: &mut Text,
+    text: &mut ArrayString<ROOM>,
     writer: &mut W,
 ) -> Result<(), RunFault>
     requires { HasNoFeed piece.now }
@@ -62,12 +63,12 @@ fn answer_piece<A: Answers, W: Write>(
 
 /// Takes the next bytes of the input: a line feed ends a line, which is answered, and what stands
 /// after the last one is kept. The replies are flushed. It gives how many lines were answered.
-pub(crate) fn answer_chunk<A: Answers, W: Write>(
+pub(crate) fn answer_chunk<const ROOM: usize, A: Answers<ROOM>, W: Write>(
     alloc: Global,
     answers: &mut A,
     held: &mut LineBuffer,
     chunk: &[u8],
-    text: &mut Text,
+    text: &mut ArrayString<ROOM>,
     writer: &mut W,
 ) -> Result<u64, RunFault>
     requires { length chunk.now < 2 ^ 32 }
@@ -98,11 +99,11 @@ pub(crate) fn answer_chunk<A: Answers, W: Write>(
 
 /// Answers the line that stands after the last line feed, at the end of the input, unless it is
 /// empty. It gives how many lines were answered, 0 or 1.
-pub(crate) fn answer_last<A: Answers, W: Write>(
+pub(crate) fn answer_last<const ROOM: usize, A: Answers<ROOM>, W: Write>(
     alloc: Global,
     answers: &mut A,
     held: &LineBuffer,
-    text: &mut Text,
+    text: &mut ArrayString<ROOM>,
     writer: &mut W,
 ) -> Result<u64, RunFault>
     ensures answered { WhereTold (A.seen answers.old).told

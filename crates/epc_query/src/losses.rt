@@ -9,8 +9,8 @@ ghost use Rattle.race_model.specs.Losses.{loss, IsLoss};
 ghost use Rattle.race_model.specs.Queries.{loss_query};
 ghost use Rattle.db_reader.specs.Telling.{WhereTold};
 ghost use Rattle.certificate.specs.Databases.{Stays};
-ghost use Rattle.query_text.specs.Answerable.{IsAnswerable};
-ghost use Rattle.epc_query.specs.Faults.{IsFaultOf};
+ghost use Rattle.query_text.specs.Readings.{IsAnswerable};
+ghost use Rattle.epc_query.specs.Faults.{IsFaultOfQuery};
 
 use certificate::{Checked, QueryFault};
 use db_reader::Table;
@@ -34,7 +34,7 @@ pub fn loss<T: Table>(
     ensures answerable { OnOk result
         (IsAnswerable (checked.old.bound) (loss_query position.now roll to.now)) }
     ensures fault { IfErr result
-        (IsFaultOf (checked.old.bound) (loss_query position.now roll to.now)) }
+        (IsFaultOfQuery (checked.old.bound) (loss_query position.now roll to.now)) }
     ensures recorded { WhereTold checked.old.told (λ file. IfOk result (λ lost.
         IsFraction (loss file position.now roll to.now) whole lost.numerator lost.denominator)) }
     ensures lost { WhereTold checked.old.told (λ file. OnOk result

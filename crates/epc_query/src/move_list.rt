@@ -13,8 +13,8 @@ ghost use Rattle.db_reader.specs.Telling.{WhereTold};
 ghost use Rattle.certificate.specs.Databases.{Stays};
 ghost use Rattle.epc_query.specs.Answers.{AreChoices};
 ghost use Rattle.epc_query.specs.Choices.{result_of};
-ghost use Rattle.query_text.specs.Answerable.{IsAnswerable};
-ghost use Rattle.epc_query.specs.Faults.{IsFaultOf};
+ghost use Rattle.query_text.specs.Readings.{IsAnswerable};
+ghost use Rattle.epc_query.specs.Faults.{IsFaultOfQuery};
 
 use crate::choices::{MOST_RESULTS, RankedChoice, include_choice};
 use crate::losses::{least_mean, lost_beside};
@@ -43,7 +43,7 @@ pub fn moves<T: Table>(
     ensures answerable { OnOk result
         (IsAnswerable (checked.old.bound) (moves_query position.now roll)) }
     ensures fault { IfErr result
-        (IsFaultOf (checked.old.bound) (moves_query position.now roll)) }
+        (IsFaultOfQuery (checked.old.bound) (moves_query position.now roll)) }
     ensures choices { WhereTold checked.old.told
         (λ file. IfOk result (λ choices. AreChoices file position.now roll choices.items)) }
     ensures stays { Stays checked.old checked.new (result ≡ Err QueryFault.Read) }

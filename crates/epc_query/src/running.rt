@@ -13,6 +13,7 @@ use crate::answers::Answers;
 use crate::lines::{answer_chunk, answer_last, flush};
 use crate::reads::Reads;
 use crate::run_fault::RunFault;
+use arrayvec::ArrayString;
 use certificate::Checked;
 use db_reader::Table;
 use query_text::{LineBuffer, Text};
@@ -56,14 +57,15 @@ pub fn run<T: Table, R: Read, W: Write>(
         (λ input. IfErr result (HasUsed turns input (R.remaining reader.new))) }
     ensures stays { Stays checked.old checked.new (result ≡ Err RunFault.Table) }
 {
-    run_lines(alloc, checked, reader, writer, turns)
+    run_lines(alloc, checked, &mut Text::new(), reader, writer, turns)
 }
 
 /// Answers each line of an input from whatever answers lines, as `run` does from an accepted table:
-/// with the same replies, reads and refusals.
-pub fn run_lines<A: Answers, R: Read, W: Write>(
+/// with the same replies, reads and refusals. The lines share the text.
+pub fn run_lines<const ROOM: usize, A: Answers<ROOM>, R: Read, W: Write>(
     alloc: Global,
     answers: &mut A,
+    text: &mut ArrayString<ROOM>,
     reader: &mut R,
     writer: &mut W,
     turns: u64,
@@ -83,14 +85,15 @@ pub fn run_lines<A: Answers, R: Read, W: Write>(
 {
     let turns = turns.min(MOST_TURNS);
     let mut reads = Reads::new(reader, turns);
-    answer_reads(alloc, answers, &mut reads, writer, turns)
+    answer_reads(alloc, answers, text, &mut reads, writer, turns)
 }
 
 /// Answers each line of an input by so many reads that are left, as `run_lines` does.
 #[inline(always)]
-fn answer_reads<A: Answers, R: Read, W: Write>(
+fn answer_reads<const ROOM: usize, A: Answers<ROOM>, R: Read, W: Write>(
     alloc: Global,
     answers: &mut A,
+    text: &mut ArrayString<ROOM>,
     reads: &mut Reads<'_, R>,
     writer: &mut W,
     turns: u64,
@@ -116,14 +119,13 @@ fn answer_reads<A: Answers, R: Read, W: Write>(
     laws::law_input_lines();
     let mut held = LineBuffer::new();
     let mut chunk = [0; 4096];
-    let mut text = Text::new();
     let mut count = 0;
     for _turn in 0..turns {
         let Ok(taken) = reads.next(&mut chunk) else {
             return Err(RunFault::Read);
         };
         if taken == 0 {
-            count += answer_end(alloc, answers, &held, &mut text, writer)?;
+            count += answer_end(alloc, answers, &held, text, writer)?;
             return Ok(count);
         }
         count += answer_chunk(
@@ -131,7 +133,7 @@ fn answer_reads<A: Answers, R: Read, W: Write>(
             answers,
             &mut held,
             &chunk[..taken],
-            &mut text,
+            text,
             writer,
         )?;
     }
@@ -139,11 +141,11 @@ fn answer_reads<A: Answers, R: Read, W: Write>(
 }
 
 /// Answers what stands after the last line feed, and flushes the reply.
-fn answer_end<A: Answers, W: Write>(
+fn answer_end<const ROOM: usize, A: Answers<ROOM>, W: Write>(
     alloc: Global,
     answers: &mut A,
     held: &LineBuffer,
-    text: &mut Text,
+    text: &mut ArrayString<ROOM>,
     writer: &mut W,
 ) -> Result<u64, RunFault>
     ensures answered { WhereTold (A.seen answers.old).told

@@ -51,7 +51,7 @@ pub(crate) fn least_mean<L: Lent>(lent: &L, position: &Position, roll: Roll) -> 
 }
 
 /// What a result of a roll, whose rank is known, costs beside the least mean, in rolls.
-pub(crate) fn lost_ranked<L: Lent>(
+pub(crate) fn lost<L: Lent>(
     lent: &L,
     position: &Position,
     roll: Roll,
@@ -76,26 +76,6 @@ pub(crate) fn lost_ranked<L: Lent>(
     after.minus(least)
 }
 
-/// What a result of a roll costs beside the least mean, in rolls.
-pub(crate) fn lost<L: Lent>(
-    lent: &L,
-    position: &Position,
-    roll: Roll,
-    least: L::Mean,
-    to: &Position,
-) -> Option<L::Mean>
-    requires within { pips position.now ≤ (L.book lent.now).bound }
-    requires legal { Legal position.now roll to.now }
-    requires least { L.Mean.number least
-        ≡ (L.book lent.now).means (play_in (L.book lent.now) position.now roll) }
-    ensures some { IsSome result }
-    ensures recorded { IfSome result (λ lost.
-        L.Mean.number lost ≡ loss_in (L.book lent.now) position.now roll to.now) }
-{
-    let rank = lent.ranks().rank(to);
-    lost_ranked(lent, position, roll, least, to, rank)
-}
-
 /// What a result of a roll costs, in rolls: the mean after it less the least such mean among all
 /// results.
 pub(crate) fn loss<L: Lent>(
@@ -111,5 +91,6 @@ pub(crate) fn loss<L: Lent>(
         L.Mean.number lost ≡ loss_in (L.book lent.now) position.now roll to.now) }
 {
     let least = least_mean(lent, position, roll)?;
-    lost(lent, position, roll, least, to)
+    let rank = lent.ranks().rank(to);
+    lost(lent, position, roll, least, to, rank)
 }

@@ -8,7 +8,6 @@ ghost use Rattle.race_model.specs.FirstPlays.{IsFirstPlay};
 ghost use Rattle.race_model.specs.Ranks.{rank as rank_of, at_rank, count_to};
 ghost use Rattle.race_model.specs.Horizon.{most_rolls};
 ghost use Rattle.race_model.specs.Files.{bound_of};
-ghost use Rattle.race_model.specs.Fractions.{IsFraction, IsThousandths};
 ghost use Rattle.race_model.specs.Strategies.{IsLeastIn};
 ghost use Rattle.race_model.specs.Books.{mean_in, recorded_in, follow_in};
 ghost use Rattle.race_model.specs.Losses.{loss_in, IsLossIn, IsMoveListIn};
@@ -19,7 +18,8 @@ ghost use Rattle.race_model.specs.RightFiles.{IsRightBoard};
 ghost use Rattle.legal_plays.specs.MoveLists.{moves_of};
 ghost use Rattle.ranking.specs.Tables.{IsRankTable};
 ghost use Rattle.fixed_fraction.specs.Board.{board_whole, part};
-ghost use Rattle.epc_query.specs.Accepted.{IsAccepted};
+ghost use Rattle.epc_query.specs.Opened.{IsOpenedBoard};
+ghost use Rattle.epc_query.specs.AnyFiles.{board_file};
 ghost use Rattle.epc_query.specs.Choices.{result_of};
 
 use crate::choices::{MOST_RESULTS, RankedChoice};
@@ -30,7 +30,7 @@ use crate::lent_moves::{list, put_list};
 use crate::turns;
 use arrayvec::{ArrayString, ArrayVec};
 use db_layout::{BoardHeader, BoardRecord, most_rolls};
-use fixed_fraction::{BoardMean, LongCount, ShortCount, WideFraction, board_mean_and_epc};
+use fixed_fraction::{BoardMean, LongCount, ShortCount};
 use home_board::Position;
 use legal_plays::{Play, Roll};
 use query_text::put_dist;
@@ -61,14 +61,14 @@ pub struct Board<'a> {
 // Clauses see the bytes.
 impl<'a> Model for Board<'a> {
     ghost use Rattle.std.specs.Prelude.{ℕ, List};
-    ghost use Rattle.epc_query.specs.Accepted.{IsAccepted};
+    ghost use Rattle.epc_query.specs.Opened.{IsOpenedBoard};
 
     ghost Value = { List ℕ };
 
     ghost view = { λ board. board.bytes.now };
 
     ghost invariant = { λ board.
-        IsAccepted board.bytes.now board.header board.ranks.now };
+        IsOpenedBoard board.bytes.now board.header board.ranks.now };
 }
 
 impl<'a> Board<'a> {
@@ -135,20 +135,6 @@ impl<'a> Board<'a> {
         self.lent().record_at(rank)
     }
 
-    /// The mean of a position of at most the bound, whose rank is known.
-    fn mean_ranked(&self, position: &Position, rank: u16) -> Option<BoardMean>
-        requires within { pips_of position.now ≤ bound_of self.now }
-        requires rank { rank ≡ rank_of position.now }
-        ensures some { IsSome result }
-        ensures least { IfSome result (IsLeastIn 33 position.now) }
-        ensures recorded { IfSome result (λ mean.
-            mean ≡ mean_in (board_book self.now) position.now) }
-    {
-        let _bound = self.bound();
-        let mean = self.record_ranked(position, rank)?.mean();
-        BoardMean::new(mean.upper, mean.lower)
-    }
-
     /// The least mean number of rolls of a position of at most the bound over all strategies, also
     /// those that look at the history, as a numerator over 36 ^ 33.
     pub fn mean(&self, position: &Position) -> Option<BoardMean>
@@ -158,35 +144,9 @@ impl<'a> Board<'a> {
         ensures recorded { IfSome result (λ mean.
             mean ≡ mean_in (board_book self.now) position.now) }
     {
+        let _bound = self.bound();
+        let _pips = position.pips();
         self.mean_ranked(position, self.ranks.rank(position))
-    }
-
-    /// The least mean number of rolls of a position of at most the bound as a fraction in lowest
-    /// terms, and its effective pip count: 49/6 of it (the GNU Backgammon manual).
-    pub fn mean_and_epc(&self, position: &Position) -> Option<(WideFraction, WideFraction)>
-        requires { pips_of position.now ≤ bound_of self.now }
-        ensures some { IsSome result }
-        ensures mean { IfSome result (λ pair. IsFraction
-            (mean_in (board_book self.now) position.now) board_whole
-            pair.0.numerator pair.0.denominator) }
-        ensures epc { IfSome result (λ pair. IsFraction
-            (49 * mean_in (board_book self.now) position.now) (6 * board_whole)
-            pair.1.numerator pair.1.denominator) }
-    {
-        let mean = self.mean(position)?;
-        Some(board_mean_and_epc(mean))
-    }
-
-    /// The effective pip count of a position of at most the bound in thousandths, rounded to the
-    /// nearest, and a half upward (this project's profile).
-    pub fn thousandths(&self, position: &Position) -> Option<u64>
-        requires { pips_of position.now ≤ bound_of self.now }
-        ensures some { IsSome result }
-        ensures rounded { IfSome result (IsThousandths
-            (49 * mean_in (board_book self.now) position.now) (6 * board_whole)) }
-    {
-        let mean = self.mean(position)?;
-        Some(mean.effective_thousandths())
     }
 
     /// How the number of rolls of a position of at most the bound is spread where each play is the
@@ -280,6 +240,10 @@ impl<'a> Board<'a> {
 impl<'a> Lent for Board<'a> {
     type Mean = BoardMean;
 
+    ghost bytes = { λ board. board };
+
+    ghost kind = { board_file };
+
     ghost book = { board_book };
 
     fn bound(&self) -> u8 {
@@ -291,7 +255,9 @@ impl<'a> Lent for Board<'a> {
     }
 
     fn mean_ranked(&self, position: &Position, rank: u16) -> Option<BoardMean> {
-        Board::mean_ranked(self, position, rank)
+        let _bound = Board::bound(self);
+        let mean = self.record_ranked(position, rank)?.mean();
+        BoardMean::new(mean.upper, mean.lower)
     }
 
     fn recorded(&self, position: &Position, roll: Roll) -> Option<u16> {
@@ -301,23 +267,23 @@ impl<'a> Lent for Board<'a> {
 }
 
 /// Its shares and its lists, as texts.
-impl<'a, const ROOM: usize> Replies<ROOM> for Board<'a> {
+impl<'a> Replies<16896> for Board<'a> {
+    fn has_room()
+        ensures { 254 * 58 + 1911 ≤ 16896 }
+    {
+    }
+
     // so that its room is not part of its caller's
     #[inline(never)]
-    fn put_dist(&self, position: &Position, text: &mut ArrayString<ROOM>) -> Option<()> {
+    fn put_dist(&self, position: &Position, text: &mut BoardText) -> Option<()> {
         let counts = self.counts(position)?;
-        put_dist::<BoardMean, ROOM>(text, &counts);
+        put_dist::<BoardMean, 16896>(text, &counts);
         Some(())
     }
 
     // so that its room is not part of its caller's
     #[inline(never)]
-    fn put_moves(
-        &self,
-        position: &Position,
-        roll: Roll,
-        text: &mut ArrayString<ROOM>,
-    ) -> Option<()> {
+    fn put_moves(&self, position: &Position, roll: Roll, text: &mut BoardText) -> Option<()> {
         put_list(self, position, roll, &mut ArrayVec::new(), text)
     }
 }

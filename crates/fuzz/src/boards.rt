@@ -8,7 +8,7 @@ use crate::plain_board::{
 use crate::random::{Parts, Random, Takes, add_lines, damage};
 use certificate::{Checked, check_board};
 use db_reader::Whole;
-use epc_query::{Board, BoardLines, run, run_lines};
+use epc_query::{Board, BoardText, run, run_lines};
 use home_board::Position;
 use legal_plays::Roll;
 use plain_model::legal_positions;
@@ -223,7 +223,7 @@ pub(crate) fn compare_lines(
     random: &mut Random,
     ranks: &Ranks,
     checked: &mut Checked<Whole<'_>>,
-    lines: &mut BoardLines<'_>,
+    board: &mut Board<'_>,
 ) -> Result<(), Difference> {
     let mut input = Vec::new(alloc);
     add_lines(random, ranks, 12, &mut input)?;
@@ -236,7 +236,7 @@ pub(crate) fn compare_lines(
         written: Vec::new(alloc),
         random: Random::new(random.next()),
     };
-    let told = run_lines(alloc, lines, &mut reader, &mut writer, 1 << 40);
+    let told = run_lines(alloc, board, &mut BoardText::new(), &mut reader, &mut writer, 1 << 40);
     let is_same = writer.written.as_slice() == replies.as_slice();
     Difference::Replies.unless(told.is_ok() && is_same)
 }

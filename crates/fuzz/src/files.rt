@@ -4,7 +4,7 @@ use crate::random::{Parts, Random, Takes, add_lines, damage};
 use certificate::{CheckFault, Checked, check};
 use db_reader::trial::FailAt;
 use db_reader::{Paged, SliceSource, Table, Whole};
-use epc_query::{Database, RunFault, run, run_lines};
+use epc_query::{Database, RunFault, Text, run, run_lines};
 use ranking::{RankTable, Ranks};
 use std::alloc::Global;
 
@@ -115,7 +115,7 @@ fn compare_opened(
     };
     let mut written = Vec::new(alloc);
     let mut reader = input;
-    let told = run_lines(alloc, &mut database, &mut reader, &mut written, 1 << 40);
+    let told = run_lines(alloc, &mut database, &mut Text::new(), &mut reader, &mut written, 1 << 40);
     Difference::Replies.unless(told.is_ok() && written.as_slice() == replies)
 }
 

@@ -19,7 +19,7 @@ use crate::files::compare_files;
 use crate::plain::compare_positions;
 use crate::plain_board::{Places, PlainBoard};
 use crate::random::Random;
-use epc_query::{Board, BoardLines};
+use epc_query::Board;
 use certificate::{Checked, check, check_board};
 use db_reader::Whole;
 use ranking::{RankTable, Ranks};
@@ -110,14 +110,14 @@ fn try_rounds(
         places: &places,
         ranks: &ranks,
     };
-    let mut lines = BoardLines::new(small);
+    let mut small = small;
     for round in 0..rounds {
         let seed = seed.wrapping_add(round);
         let mut random = Random::new(seed);
         if let Err(found) = try_files(alloc, &mut random, &ranks, checked, file) {
             return Err((seed, found));
         }
-        if let Err(found) = try_boards(alloc, &mut random, checked, &mut lines, &board, &whole) {
+        if let Err(found) = try_boards(alloc, &mut random, checked, &mut small, &board, &whole) {
             return Err((seed, found));
         }
     }
@@ -151,11 +151,11 @@ fn try_boards(
     alloc: Global,
     random: &mut Random,
     checked: &mut Checked<Whole<'_>>,
-    lines: &mut BoardLines<'_>,
+    small: &mut Board<'_>,
     board: &Board<'_>,
     whole: &PlainBoard<'_>,
 ) -> Result<(), Difference> {
-    compare_lines(alloc, random, whole.ranks, checked, lines)?;
+    compare_lines(alloc, random, whole.ranks, checked, small)?;
     compare_boards(alloc, random, whole)?;
     compare_records(alloc, random, whole, board)
 }

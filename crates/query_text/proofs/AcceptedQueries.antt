@@ -2,7 +2,7 @@
 use Rattle.std.proofs.Common.{◌≡◌, ℕ, ◌≤◌, List, subst}
 use Rattle.race_model.specs.Positions.{Board, pips}
 use Rattle.race_model.specs.Queries.{Query, mean_query, IsQuery, HasTooMany, IsAccepted}
-use Rattle.query_text.specs.Answerable.{IsAnswerable}
+use Rattle.query_text.specs.Readings.{IsAnswerable}
 
 -- a query of the line that the database answers is accepted
 pub accepted_query : (bound : ℕ) (line : List ℕ) (q : Query) → IsQuery line q → ¬ HasTooMany q

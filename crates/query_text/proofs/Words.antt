@@ -25,7 +25,7 @@ use Rattle.query_text.specs.declared.query.Kind.TheVariants.{Moves as MovesKind,
 use Rattle.query_text.specs.declared.query.Query.{Query}
 use Rattle.query_text.specs.declared.query.LineFault.{LineFault}
 use Rattle.query_text.specs.declared.query.LineFault.TheVariants.{BadLine, TooMany}
-use Rattle.query_text.specs.Readings.{kind_text, IsPositionReading, IsThrowReading, IsResultText}
+use Rattle.query_text.specs.Readings.{kind_word, IsPositionReading, IsThrowReading, IsResultText}
 use Rattle.query_text.specs.Readings.{IsResultReading, IsRestFault, IsRestReading, IsReading, both}
 
 -- the byte is a space
@@ -188,22 +188,22 @@ named word =
     (cond (eqb (get_or word 0 0) 108) LossKind RankKind))))
 
 -- .. which is the kind of its own word
-named-kind_text : (k : Kind) → named (kind_text k) ≡ k
+named-kind_word : (k : Kind) → named (kind_word k) ≡ k
 unfolding named
-named-kind_text MeanKind = refl
-named-kind_text DistKind = refl
-named-kind_text PlayKind = refl
-named-kind_text LossKind = refl
-named-kind_text MovesKind = refl
-named-kind_text RankKind = refl
+named-kind_word MeanKind = refl
+named-kind_word DistKind = refl
+named-kind_word PlayKind = refl
+named-kind_word LossKind = refl
+named-kind_word MovesKind = refl
+named-kind_word RankKind = refl
 
 -- two kinds have two words
-kinds_apart : (k l : Kind) → kind_text k ≡ kind_text l → k ≡ l
-kinds_apart k l e = sym (named-kind_text k) ∙ ap named e ∙ named-kind_text l
+kinds_apart : (k l : Kind) → kind_word k ≡ kind_word l → k ≡ l
+kinds_apart k l e = sym (named-kind_word k) ∙ ap named e ∙ named-kind_word l
 
 -- the first word of a line is that of what it asks
 first_word : (line word : List ℕ) (more : List (List ℕ)) (q : Asked) → words line ≡ word ∷ more
-    → HasWords line q → word ≡ kind_text (kind_of q)
+    → HasWords line q → word ≡ kind_word (kind_of q)
 unfolding kind_of
 first_word line word more (mean_query x) e has = cc (has.2)
 first_word line word more (dist_query x) e has = cc (has.2)
@@ -224,11 +224,11 @@ one_word_asks_nothing line (rank_query x) e has = cc (has.2)
 
 -- .. and where its first word is that of no kind
 pub no_kind : (line word : List ℕ) (more : List (List ℕ)) (q : Asked) → words line ≡ word ∷ more
-    → ((k : Kind) → word ≢ kind_text k) → HasWords line q → ⊥
+    → ((k : Kind) → word ≢ kind_word k) → HasWords line q → ⊥
 no_kind line word more q e none has = none (kind_of q) (first_word line word more q e has)
 
 -- a line whose rest is refused as bad asks nothing
-bad_rest : (line rest : List ℕ) (q : Asked) → words line ≡ kind_text (kind_of q) ∷ words rest
+bad_rest : (line rest : List ℕ) (q : Asked) → words line ≡ kind_word (kind_of q) ∷ words rest
     → IsRestFault (kind_of q) rest BadLine → HasWords line q → ⊥
 unfolding kind_of
 bad_rest line rest (mean_query x) e bad has = let one : words rest ≡ has.0 ∷ [] = cc (has.2) in
@@ -257,7 +257,7 @@ loss_joined p r q =
     ∙ sym (append_assoc (codes "loss " ++ p ++ codes " " ++ r) (codes " ") q)
 
 -- a line whose rest has too many checkers in a position asks that
-too_many_rest : (line rest : List ℕ) (k : Kind) → line ≡ kind_text k ++ (32 ∷ rest)
+too_many_rest : (line rest : List ℕ) (k : Kind) → line ≡ kind_word k ++ (32 ∷ rest)
     → IsRestFault k rest TooMany → (q : Asked) × IsQuery line q × HasTooMany q
 too_many_rest line rest MeanKind e (x, is, many) = (mean_query x, (rest, is, e), many)
 too_many_rest line rest DistKind e (x, is, many) = (dist_query x, (rest, is, e), many)
@@ -307,7 +307,7 @@ too_many_rest line rest LossKind e (x, v, y, is, many) =
 -- the reading of what stands after the first word is that of the line
 pub rest_read : (line word rest : List ℕ) (k : Kind) (r : Result Query LineFault)
     → ((line : List ℕ) (q : Asked) → IsQuery line q ↔ HasWords line q)
-    → (line ≡ word ++ (32 ∷ rest)) × (words line ≡ word ∷ words rest) → word ≡ kind_text k
+    → (line ≡ word ++ (32 ∷ rest)) × (words line ≡ word ∷ words rest) → word ≡ kind_word k
     → IsRestReading k rest r → IsReading line r
 rest_read line word rest k (Ok query) law parts e read =
     rw (parts.0 ∙ ap (λ w. w ++ (32 ∷ rest)) e) read
@@ -315,7 +315,7 @@ rest_read line word rest k (Err BadLine) law parts e bad = λ q is.
     let has = (law line q).0 is in
     let same : k ≡ kind_of q = kinds_apart k (kind_of q) (sym e ∙ first_word line word
     (words rest) q parts.1 has) in
-    bad_rest line rest q (parts.1 ∙ ap (λ w. w ∷ words rest) (e ∙ ap kind_text same))
+    bad_rest line rest q (parts.1 ∙ ap (λ w. w ∷ words rest) (e ∙ ap kind_word same))
     (subst (λ l. IsRestFault l rest BadLine) same bad) has
 rest_read line word rest k (Err TooMany) law parts e many = too_many_rest line rest k (parts.0
     ∙ ap (λ w. w ++ (32 ∷ rest)) e) many

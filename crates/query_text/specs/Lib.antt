@@ -1,4 +1,3 @@
 pub mod Readings
-pub mod Answerable
 pub mod Texts
 pub mod Held

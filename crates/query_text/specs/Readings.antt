@@ -1,11 +1,11 @@
 -- What reading a line gives, in the words of the definitions.
-use Rattle.std.specs.Prelude.{◌≡◌, ◌≢◌, ℕ, ◌<◌, ◌⊎◌, List, [], ◌∷◌, ◌++◌, codes, Result, Ok, Err}
-use Rattle.race_model.specs.Positions.{Board, checkers}
+use Rattle.std.specs.Prelude.{◌≡◌, ◌≢◌, ℕ, ◌<◌, ◌≤◌, ◌⊎◌, List, [], ◌∷◌, ◌++◌, codes, Result, Ok, Err}
+use Rattle.race_model.specs.Positions.{Board, checkers, pips}
 use Rattle.race_model.specs.PositionText.{IsPositionText}
 use Rattle.race_model.specs.Dice.{Throw}
 use Rattle.race_model.specs.Queries.{Query as Asked, mean_query, dist_query, play_query, loss_query}
 use Rattle.race_model.specs.Queries.{moves_query, rank_query, IsQuery, HasTooMany, IsRollText}
-use Rattle.race_model.specs.Queries.{words}
+use Rattle.race_model.specs.Queries.{words, subject, AsksOfFinished, HasResult}
 use Rattle.home_board.specs.declared.position.Position.{Position}
 use Rattle.legal_plays.specs.declared.roll.Roll.{Roll}
 use Rattle.query_text.specs.declared.query.Kind.{Kind}
@@ -18,13 +18,13 @@ use Rattle.query_text.specs.declared.query.LineFault.{LineFault}
 use Rattle.query_text.specs.declared.query.LineFault.TheVariants.{BadLine, TooMany}
 
 -- the word of a kind of query
-abbrev pub kind_text : Kind → List ℕ
-kind_text MeanKind = codes "mean"
-kind_text DistKind = codes "dist"
-kind_text PlayKind = codes "play"
-kind_text LossKind = codes "loss"
-kind_text MovesKind = codes "moves"
-kind_text RankKind = codes "rank"
+abbrev pub kind_word : Kind → List ℕ
+kind_word MeanKind = codes "mean"
+kind_word DistKind = codes "dist"
+kind_word PlayKind = codes "play"
+kind_word LossKind = codes "loss"
+kind_word MovesKind = codes "moves"
+kind_word RankKind = codes "rank"
 
 -- the query that the code's value stands for
 abbrev pub asked : Query → Asked
@@ -97,7 +97,7 @@ IsRestFault RankKind rest fault = IsPositionReading rest (Err fault)
 -- what stands after the word of a kind asks this query, or is refused
 abbrev pub IsRestReading : Kind → List ℕ → Result Query LineFault → Type 0
 IsRestReading kind rest (Ok query) =
-    IsQuery (kind_text kind ++ (32 ∷ rest)) (asked query) × (¬ HasTooMany (asked query))
+    IsQuery (kind_word kind ++ (32 ∷ rest)) (asked query) × (¬ HasTooMany (asked query))
 IsRestReading kind rest (Err fault) = IsRestFault kind rest fault
 
 -- the line asks this query, or one with a position of too many checkers, or none
@@ -105,3 +105,9 @@ abbrev pub IsReading : List ℕ → Result Query LineFault → Type 0
 IsReading line (Ok query) = IsQuery line (asked query) × (¬ HasTooMany (asked query))
 IsReading line (Err BadLine) = (q : Asked) → ¬ IsQuery line q
 IsReading line (Err TooMany) = (q : Asked) × IsQuery line q × HasTooMany q
+
+-- a file of this bound answers the query
+pub record IsAnswerable (bound : ℕ) (q : Asked) : Type 0 where
+  pub within : pips (subject q) ≤ bound
+  pub unfinished : ¬ AsksOfFinished q
+  pub result : HasResult q

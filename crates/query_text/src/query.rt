@@ -2,7 +2,7 @@
 ghost use Rattle.std.specs.Prelude.{◌≡◌, ◌≢◌, ℕ, ◌<◌, List, [], ◌∷◌, ◌++◌, ◌==◌, length, position, IfSome, MatchOption};
 ghost use Rattle.race_model.specs.Dice.{Throw};
 ghost use Rattle.race_model.specs.Queries.{mean_query, IsQuery, HasTooMany, IsRollText, words};
-ghost use Rattle.query_text.specs.Readings.{kind_text, IsPositionReading, IsThrowReading};
+ghost use Rattle.query_text.specs.Readings.{kind_word, IsPositionReading, IsThrowReading};
 ghost use Rattle.query_text.specs.Readings.{IsResultReading, IsRestReading, IsReading, both};
 
 use home_board::{Position, PositionFault, parse_position};
@@ -99,8 +99,8 @@ fn read_rest(kind: Kind, rest: &[u8]) -> Result<Query, LineFault>
 
 /// The kind of query that a word names.
 fn read_kind(word: &[u8]) -> Option<Kind>
-    ensures { MatchOption result ((kind : Kind) → word.now ≢ kind_text kind)
-        (λ kind. word.now ≡ kind_text kind) }
+    ensures { MatchOption result ((kind : Kind) → word.now ≢ kind_word kind)
+        (λ kind. word.now ≡ kind_word kind) }
 {
     match word {
         b"mean" => Some(Kind::Mean),

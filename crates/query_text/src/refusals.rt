@@ -2,9 +2,8 @@
 ghost use Rattle.std.specs.Prelude.{◌≡◌, ℕ, ◌↔◌, List, IsTrue, IfOk, IfErr, MatchOption};
 ghost use Rattle.race_model.specs.Queries.{subject, AsksOfFinished, HasResult, IsQuery, HasTooMany};
 ghost use Rattle.race_model.specs.Queries.{IsRefused, IsAccepted};
-ghost use Rattle.query_text.specs.Readings.{asked};
+ghost use Rattle.query_text.specs.Readings.{asked, IsAnswerable};
 ghost use Rattle.query_text.specs.Texts.{why};
-ghost use Rattle.query_text.specs.Answerable.{IsAnswerable};
 
 use crate::query::{LineFault, Query, read_query};
 use crate::reply::Refusal;

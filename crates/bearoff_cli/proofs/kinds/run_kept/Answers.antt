@@ -1,5 +1,5 @@
 -- The replies over bytes of each kind.
-use Rattle.std.proofs.Common.{Some, IfErr, IfOk, ap, subst, sym, ◌∙◌}
+use Rattle.std.proofs.Common.{Some, IfErr, IfOk, ap, subst, sym}
 use Rattle.epc_query.specs.AnyFiles.{IsRightBy, board_file, database_file}
 use Rattle.epc_query.specs.Runs.{IsRunStopped}
 use Rattle.bearoff_cli.specs.InputAnswers.{AreAnswered}
@@ -30,7 +30,7 @@ returns-in-Board-clause-answers g c given read =
     (sym c.in-Board.is) (are_answered (board_file bytes) given left old new
     c.run_lines-in-Board.result
     (subst (λ kind. IsRightBy (file_of kind bytes)) c.in-Board.is c.requires.right)
-    (c.run_lines-in-Board.ensures.done bytes (ap Some (c.new-lines.ensures ∙ c.accepted.ensures))
+    (c.run_lines-in-Board.ensures.done bytes (ap Some c.accepted-board.ensures)
     given read))
 
 pub returns-in-Board-clause-stopped : goal.returns-in-Board-clause-stopped
@@ -40,4 +40,4 @@ returns-in-Board-clause-stopped g c given read =
     (g.O.Write.contents c.args.output.now)
     (g.O.Write.contents c.run_lines-in-Board.new.writer))) (sym c.in-Board.is)
     (c.run_lines-in-Board.ensures.stopped c.args.bytes.now
-    (ap Some (c.new-lines.ensures ∙ c.accepted.ensures)) given read)
+    (ap Some c.accepted-board.ensures) given read)

@@ -29,9 +29,9 @@ legal g c y =
     subst (λ (ys : List Board). Contains ys y ↔ Legal c.args.position.now c.args.roll y)
     (sym c.as_slice-to-items.ensures.value) (c.results-found.ensures.members y)
 
-pub lost_ranked-requires-clause-legal : goal.lost_ranked-requires-clause-legal
-lost_ranked-requires-clause-legal g c =
-    (legal g (goal.at.lost_ranked-requires-clause-legal g c).After-as_slice-to-items
+pub lost-requires-clause-legal : goal.lost-requires-clause-legal
+lost-requires-clause-legal g c =
+    (legal g (goal.at.lost-requires-clause-legal g c).After-as_slice-to-items
     c.to-item.result).0
     (c.loop-to.to-index, c.loop-to-test.true, sym c.to-item.is)
 

@@ -8,5 +8,6 @@ returns c = record {
   right = c.bound.ensures.right.book;
   long = short c.args.self.now c.bound.ensures.right.file;
   rolls = refl;
+  replies = λ line text is. is;
   range = omega (arith, c.bound.ensures.range);
 }

@@ -9,5 +9,6 @@ returns c = record {
   right = c.bound.ensures.right.book;
   long = whole_board (board_book c.args.self.now) refl;
   rolls = refl;
+  replies = λ line text is. is;
   range = c.bound.ensures.range;
 }

@@ -1,11 +1,10 @@
-use Rattle.std.proofs.Common.{◌≡◌, refl, subst, sym, ◌∙◌}
+use Rattle.std.proofs.Common.{◌≡◌, refl, ◌∙◌}
 use Rattle.race_model.specs.Files.{mean}
 use Rattle.race_model.specs.Ranks.{rank}
-use Rattle.race_model.specs.Strategies.{IsLeast}
 use Rattle.certificate.proofs.Accepted.{mean-of_lent}
-use Rattle.epc_query.proofs.Known.{known_least, known_mean, if_some_then}
-use Rattle.epc_query.proofs.database.Database.mean_ranked.Goals as goal
-use Rattle.epc_query.proofs.database.Database.mean_ranked.Goals.{After-mean}
+use Rattle.epc_query.proofs.Known.{known_mean, if_some_then}
+use Rattle.epc_query.proofs.database.DatabaseLent.mean_ranked.Goals as goal
+use Rattle.epc_query.proofs.database.DatabaseLent.mean_ranked.Goals.{After-mean}
 
 -- the number that is read is the recorded mean
 read : (c : After-mean) → c.mean.result ≡ mean c.args.self.now c.args.position.now
@@ -21,15 +20,6 @@ returns-clause-some c =
     let x = c.args.position.now in
     c.new.ensures.some.1 (rw (read (goal.at.returns-clause-some c).After-mean)
     (known_mean f c.bound-bound.ensures.right x c.record_ranked.ensures.position c.requires.within))
-
-pub returns-clause-least : goal.returns-clause-least
-returns-clause-least c =
-    let f = c.args.self.now in
-    let x = c.args.position.now in
-    if_some_then (λ rolls. rolls ≡ c.mean.result) (IsLeast x) c.new.result c.new.ensures.value
-    (λ rolls is. subst (IsLeast x) (sym (is ∙ read (goal.at.returns-clause-least c).After-mean))
-    (known_least f c.bound-bound.ensures.right x c.record_ranked.ensures.position
-    c.requires.within))
 
 pub returns-clause-recorded : goal.returns-clause-recorded
 returns-clause-recorded c =

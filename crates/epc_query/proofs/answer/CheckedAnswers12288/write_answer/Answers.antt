@@ -1,7 +1,7 @@
 use Rattle.std.proofs.Common.{arith}
 use Rattle.epc_query.specs.AnyFiles.{database_file}
 use Rattle.epc_query.proofs.Runs.{one_reply, one_part}
-use Rattle.epc_query.proofs.answer.CheckedAnswers.write_answer.Goals as goal
+use Rattle.epc_query.proofs.answer.CheckedAnswers12288.write_answer.Goals as goal
 
 pub returns-in-Ok-write_reply_by-clause-answered :
     goal.returns-in-Ok-write_reply_by-clause-answered

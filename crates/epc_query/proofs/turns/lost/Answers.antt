@@ -1,5 +1,5 @@
 use Rattle.std.proofs.Common.{arith}
-use Rattle.epc_query.proofs.turns.lost_ranked.Goals as goal
+use Rattle.epc_query.proofs.turns.lost.Goals as goal
 
 pub mean_ranked-requires-clause-within : goal.mean_ranked-requires-clause-within
 mean_ranked-requires-clause-within g c =

@@ -2,7 +2,7 @@ use Rattle.std.proofs.Common.{ap, ◌∙◌, arith}
 use Rattle.race_model.specs.BoardFiles.{mean_parts}
 use Rattle.db_layout.specs.BoardRecords.{Stored}
 use Rattle.epc_query.proofs.BoardKnown.{known_written, known_mean}
-use Rattle.epc_query.proofs.whole_board.Board.mean_ranked.Goals as goal
+use Rattle.epc_query.proofs.whole_board.BoardLent.mean_ranked.Goals as goal
 
 pub returns-clause-some : goal.returns-clause-some
 returns-clause-some c =
