@@ -13,7 +13,7 @@ from pathlib import Path
 
 import pytest
 
-from running import KNOWN, ROOT, expect_that, need, run, succeed
+from running import KNOWN, ROOT, WATCHED, expect_that, need, run, succeed
 
 # what was compiled as it is written
 UNPROVED = ROOT / "out/unproved"
@@ -165,7 +165,9 @@ def program_of(request, crate, option):
 @pytest.fixture(scope="session")
 def program(request):
     """The program."""
-    return program_of(request, "bearoff_cli", "--program")
+    path = program_of(request, "bearoff_cli", "--program")
+    WATCHED.add(str(path))
+    return path
 
 
 @pytest.fixture(scope="session")

@@ -1,6 +1,7 @@
 """Runs commands as a user does, and compares what came with what was wanted."""
 
 import collections
+import hashlib
 import os
 import re
 import shlex
@@ -34,17 +35,45 @@ def as_bytes(text):
     return (text if not text or text.endswith("\n") else text + "\n").encode()
 
 
+# the program, of whose runs it is looked at what stands in their folder before and after
+WATCHED = set()
+
+
+def standing(folder):
+    """What stands in a folder and below it: of each name the mode, and the bytes or where it
+    leads."""
+    found = {}
+    for path in folder.rglob("*"):
+        data = os.readlink(path) if path.is_symlink() else None
+        if data is None and path.is_file() and os.access(path, os.R_OK):
+            data = hashlib.sha256(path.read_bytes()).digest()
+        found[str(path)] = path.lstat().st_mode, data
+    return found
+
+
 def run(*words, input=b"", cwd=None, timeout=120, **more):
-    """Runs a command with an input, and tells its status and both outputs."""
+    """Runs a command with an input, and tells its status and both outputs. The program changes
+    nothing in the folder where it is run but the file that `build` and `upgrade` name."""
+    __tracebackhide__ = True
     words = [str(word) for word in words]
     given = as_bytes(input)
+    here = Path(cwd or os.getcwd())
+    is_watched = words[0] in WATCHED and not here.is_relative_to(ROOT)
+    before = standing(here) if is_watched else {}
     try:
         done = subprocess.run(
             words, input=given, capture_output=True, cwd=cwd, timeout=timeout * SLOWER, **more
         )
     except subprocess.TimeoutExpired as late:
         pytest.fail(f"ran:    {line_of(words)}\ncame:   no end within {late.timeout} s")
-    return Done(words, str(cwd or os.getcwd()), given, done.returncode, done.stdout, done.stderr)
+    done = Done(words, str(here), given, done.returncode, done.stdout, done.stderr)
+    after = standing(here) if is_watched else {}
+    changed = {path for path, _ in before.items() ^ after.items()}
+    if words[1:2] in (["build"], ["upgrade"]) and done.errors in (b"", b"bearoff: write\n"):
+        named = words[2:] if words[1] == "build" else words[-1:]
+        changed -= {os.path.realpath(here / word) for word in named}
+    expect_that(not changed, done, f"{' '.join(sorted(changed))} as before")
+    return done
 
 
 def wait_until(holds):

@@ -304,7 +304,7 @@ def text_of(line):
 
 def is_synced_first(calls):
     """Whether the new file is brought to the disk after its last write and before it gets its
-    name, the folder after."""
+    name, and the folder of that name after."""
     texts = [(name, line) for name, line, _ in calls]
     made = next(
         (p for p, (_, line) in enumerate(texts) if ".tmp" in line and "O_EXCL" in line), None
@@ -313,7 +313,11 @@ def is_synced_first(calls):
         return False
     number = re.search(r"= (\d+)", texts[made][1])[1]
     after = list(enumerate(texts))[made + 1 :]
-    renamed = next(p for p, (name, _) in after if name.startswith("rename"))
+    renamed, place = next(
+        (p, re.search(', "(.*)"', line)[1])
+        for p, (name, line) in after
+        if name.startswith("rename")
+    )
     written = max(
         p
         for p, (name, line) in after
@@ -324,13 +328,15 @@ def is_synced_first(calls):
         for p, (name, line) in after
         if name == "fsync" and f"fsync({number})" in line and "= 0" in line
     ]
-    folder = [p for p, (name, line) in after if p > renamed and name == "fsync" and "= 0" in line]
-    written_later = [
-        p
-        for p, (name, line) in after
-        if p > renamed and name == "write" and "write(1, " not in line
-    ]
-    return bool(synced) and written < synced[0] < renamed and bool(folder) and not written_later
+    behind = "".join(line for p, (_, line) in after if p > renamed)
+    folder = re.escape(os.path.dirname(place) or ".")
+    is_settled = re.search(rf'"{folder}/", .* = (\d+)\n(.*\n)*.* fsync\(\1\) += 0', behind)
+    return (
+        bool(synced)
+        and written < synced[0] < renamed
+        and bool(is_settled)
+        and not re.search(r" write\((?!1, )", behind)
+    )
 
 
 def none_wrong(jobs):

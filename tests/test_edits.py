@@ -180,28 +180,31 @@ def test_names(tool):
 def test_prover(room):
     """Over the prover: a right body, one that does not compile, and wrong ones beside them."""
     rows = {
-        "is_right": ("Fault::OverBound => 2,", "Fault::OverBound => 1 + 1,"),
-        "is_wrong": ("Fault::OverBound => 2,", "Fault::OverBound => 1,"),
-        "is_no_program": ('Fault::Memory => text("memory"),', 'Fault::Memory => text("memory",'),
-        "is_not_there": ("Fault::Nowhere", "Fault::Memory"),
-        "writes_nothing": ("write_bytes(line(fault).as_str().as_bytes(), errors)", "Ok(())"),
+        "is_right": ("named.number == file.number", "file.number == named.number"),
+        "is_wrong": ('path.starts_with("/dev/std") || ', ""),
+        "is_no_program": (
+            "if name_of(new) == name_of(place) {",
+            "if name_of(new == name_of(place) {",
+        ),
+        "is_not_there": ("DraftFault::Nowhere", "DraftFault::Memory"),
+        "takes_nothing_away": ("let _ = disk.remove(names.new.as_str());", ""),
     }
     text = "\n".join(
-        f"name: {name}\nfile: src/fault.rt\nold: {old}\nnew: {new}\n"
+        f"name: {name}\nfile: src/draft.rt\nold: {old}\nnew: {new}\n"
         for name, (old, new) in rows.items()
     )
     (room / "edits").write_text(text)
-    words = (ROOT / "tools/try_edits", "exit_status", "--edits", room / "edits")
+    words = (ROOT / "tools/try_edits", "whole_file", "--edits", room / "edits")
     here = {**os.environ, "XDG_CACHE_HOME": str(room / "cache")}
     done = run(*words, env=here, timeout=1200)
-    rows = re.findall(r"(?m)^([\w ]+): exit_status/(\w+): ", done.output.decode())
+    rows = re.findall(r"(?m)^([\w ]+): whole_file/(\w+): ", done.output.decode())
     verdicts = {name: kind for kind, name in rows}
     wanted = {
         "is_right": "PROVED",
         "is_wrong": "refused",
         "is_no_program": "BAD EDIT",
         "is_not_there": "BAD EDIT",
-        "writes_nothing": "refused",
+        "takes_nothing_away": "refused",
     }
     expect_that(verdicts == wanted and done.status == 1, done, f"status 1 and {wanted}")
 

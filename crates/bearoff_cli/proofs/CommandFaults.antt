@@ -7,10 +7,10 @@ use Rattle.epc_query.specs.UsedReads.{HasUsed}
 use Rattle.epc_query.specs.declared.run_fault.RunFault.{RunFault}
 use Rattle.epc_query.specs.declared.run_fault.RunFault.TheVariants.{Read as InputRead, Write as OutputWrite, Table}
 use Rattle.epc_query.specs.declared.run_fault.RunFault.TheVariants.{Memory as NoMemoryLeft, Turns as NoTurns}
-use Rattle.exit_status.specs.Causes.{of_check, of_run}
-use Rattle.exit_status.specs.declared.fault.Fault.{Fault}
-use Rattle.exit_status.specs.declared.fault.Fault.TheVariants.{Open, File, Read, Write, Memory, Turns, OverBound}
-use Rattle.exit_status.specs.declared.fault.Fault.TheVariants.{Refused, NotOld}
+use Rattle.bearoff_cli.specs.Causes.{of_check, of_run}
+use Rattle.bearoff_cli.specs.declared.fault.Fault.{Fault}
+use Rattle.bearoff_cli.specs.declared.fault.Fault.TheVariants.{Open, File, Read, Write, Memory, Turns, OverBound}
+use Rattle.bearoff_cli.specs.declared.fault.Fault.TheVariants.{Refused, NotOld}
 use Rattle.bearoff_cli.specs.Faults.{IsAnswerFault, IsBuildFault, IsCheckFault, IsQueryFault, IsReadFault}
 use Rattle.bearoff_cli.specs.Faults.{IsUpgradeFault}
 use Rattle.bearoff_cli.specs.Turns.{HasUsedTurns, UsesTurns}

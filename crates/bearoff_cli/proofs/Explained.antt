@@ -6,11 +6,11 @@ use Rattle.certificate.specs.declared.check_fault.CheckFault.{CheckFault}
 use Rattle.certificate.specs.declared.check_fault.CheckFault.TheVariants.{Header, Play, NotLeast, Mean, Spread}
 use Rattle.certificate.specs.declared.check_fault.CheckFault.TheVariants.{Read as TableRead}
 use Rattle.command_line.specs.Asked.{Asked, IsAskedBy, about}
-use Rattle.exit_status.specs.Causes.{of_check}
-use Rattle.exit_status.specs.Statuses.{status_of}
-use Rattle.exit_status.specs.declared.fault.Fault.{Fault}
-use Rattle.exit_status.specs.declared.fault.Fault.TheVariants.{Open, File, Read, Write, Memory, Turns, OverBound}
-use Rattle.exit_status.specs.declared.fault.Fault.TheVariants.{Refused, NotOld}
+use Rattle.bearoff_cli.specs.Causes.{of_check}
+use Rattle.bearoff_cli.specs.Statuses.{status_of}
+use Rattle.bearoff_cli.specs.declared.fault.Fault.{Fault}
+use Rattle.bearoff_cli.specs.declared.fault.Fault.TheVariants.{Open, File, Read, Write, Memory, Turns, OverBound}
+use Rattle.bearoff_cli.specs.declared.fault.Fault.TheVariants.{Refused, NotOld}
 use Rattle.bearoff_cli.specs.Faults.{IsCheckFault}
 use Rattle.bearoff_cli.specs.StoppedRuns.{IsAboutEnd, IsNoFile, IsOfFile, IsRefusalOf, IsUnreadEnd, LeavesAbout}
 use Rattle.bearoff_cli.specs.Tellings.{IsExplainedFor}

@@ -5,8 +5,8 @@ use Rattle.std.specs.Prelude.{OnOk, OnErr}
 use Rattle.std.specs.Io.KnownBytes.{Appends}
 use Rattle.std.specs.String.{string_bytes}
 use Rattle.command_line.specs.Asked.{Asked, default, build, check, query, ask, about, audit, upgrade}
-use Rattle.exit_status.specs.Statuses.{status_of}
-use Rattle.exit_status.specs.declared.fault.Fault.{Fault}
+use Rattle.bearoff_cli.specs.Statuses.{status_of}
+use Rattle.bearoff_cli.specs.declared.fault.Fault.{Fault}
 use Rattle.whole_file.specs.Disks.{Moment, IsSameAt, AllOf, Goes}
 use Rattle.whole_file.specs.Drafts.{IsOldOrWhole, IsBegun, IsDropped, IsPut}
 use Rattle.whole_file.specs.Paths.{Paths, IsSameBehind, LeadsTo, PathStays, place_of}

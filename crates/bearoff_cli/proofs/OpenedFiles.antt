@@ -94,16 +94,21 @@ over_read kind From file given left old new (Ok x) read is =
 over_read kind From file given left old new (Err e) read is = tt
 
 -- .. to lines that are words, which were all read then
-pub words_answered : {A E : Type 0} (From : List ℕ → Type 0) (file given : List ℕ)
-    (left old new : Option (List ℕ)) (r : Result A E) → From file
-    → IfOk r (λ _. AreAnswered (stated_file file) given left old new)
+pub words_answered : {A E : Type 0} (From : List ℕ → Type 0) (given : List ℕ)
+    (left old new : Option (List ℕ)) (r : Result A E)
+    → OnOk r (WhereTold (Some given) (λ text. AreAnsweredFrom stated_file From text left old new))
     → OnOk r (AreAnsweredFrom stated_file From given (Some []) old new)
-words_answered From file given left old new (Ok x) read is = record {
-  file = file;
-  read = read;
-  answered = record { right = is.right; end = refl; replies = is.replies };
-}
-words_answered From file given left old new (Err e) read is = tt
+words_answered From given left old new (Ok x) is =
+    let it = is given refl in record {
+      file = it.file;
+      read = it.read;
+      answered = record {
+        right = it.answered.right;
+        end = refl;
+        replies = it.answered.replies;
+      };
+    }
+words_answered From given left old new (Err e) is = tt
 
 -- a version that is not the second is the first
 pub is_full : (v : Version) → ¬ (version_number v ≡ 2) → v ≡ full

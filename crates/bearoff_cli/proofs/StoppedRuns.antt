@@ -11,7 +11,6 @@ use Rattle.race_model.specs.InputLines.{whole_lines, lines_of}
 use Rattle.race_model.proofs.Replies.InputLines.{pieces_stay}
 use Rattle.retrograde.specs.UsualVersion.{usual_version}
 use Rattle.db_layout.specs.Writes.{AppendsPart}
-use Rattle.db_reader.specs.Telling.{WhereTold}
 use Rattle.db_layout.proofs.Known.{appends_kept, appends_twice}
 use Rattle.epc_query.specs.AnyFiles.{AnyFile, database_file, bound_by, IsRightBy}
 use Rattle.epc_query.specs.Runs.{HasAnswered, HasPart, HasReplies, IsRunStopped, IsStoppedAt}
@@ -19,10 +18,12 @@ use Rattle.epc_query.specs.declared.run_fault.RunFault.{RunFault}
 use Rattle.epc_query.specs.declared.run_fault.RunFault.TheVariants.{Read, Write, Table, Memory, Turns}
 use Rattle.query_text.proofs.Held.{appends_same, part_after, part_all}
 use Rattle.epc_query.proofs.Runs.{failed_flush, flushed, read_front, stopped_in}
-use Rattle.exit_status.specs.declared.fault.Fault.{Fault}
+use Rattle.bearoff_cli.specs.declared.fault.Fault.{Fault}
 use Rattle.bearoff_cli.specs.FileAnswers.{WritesLevels, count_line}
 use Rattle.bearoff_cli.specs.Kinds.{stated_file}
-use Rattle.bearoff_cli.specs.StoppedRuns.{AreStopped, IsNothingOr, LeavesReplies, WritesLevelsPart, WritesLevelPart}
+use Rattle.bearoff_cli.specs.StoppedRuns.{AreStopped, IsNothingOr, Leaves, LeavesReplies, WritesLevelsPart}
+use Rattle.bearoff_cli.specs.StoppedRuns.{WritesLevelPart}
+use Rattle.command_line.specs.Asked.{ask}
 use Rattle.bearoff_cli.specs.Turns.{UsesTurns}
 use Rattle.bearoff_cli.specs.declared.act.Done.{Done}
 
@@ -86,20 +87,14 @@ read_stopped kind From file given left old new (Err e) read (inr stops) =
     inr (file, read, stops.right, stops)
 
 -- .. where the lines are words
-pub words_stopped : {A : Type 0} (From : List ℕ → Type 0) (file given : List ℕ)
-    (rest old new : Option (List ℕ)) (r : Result A Fault) → From file
+pub words_stopped : {A : Type 0} (From : List ℕ → List ℕ → Type 0) (path given : List ℕ)
+    (input rest old new : Option (List ℕ)) (r : Result A Fault)
     → IfErr r (UsesTurns (Some given) rest)
-    → WhereTold (Some given) (λ lines. IfErr r
-    (λ fault. (new ≡ old) ⊎ AreStopped (stated_file file) lines rest old new fault))
-    → IfErr r (λ fault. (left : Option (List ℕ)) × UsesTurns (Some given) left fault
-    × LeavesReplies stated_file From (Some given) left old new fault)
-words_stopped From file given rest old new (Ok x) read turns stops = tt
-words_stopped {A} From file given rest old new (Err e) read turns stops = (
-  rest,
-  turns,
-  λ lines told. read_stopped {A = A} stated_file From file lines rest old new (Err e) read
-      (stops lines told),
-)
+    → IfErr r (LeavesReplies stated_file (From path) (Some given) rest old new)
+    → IfErr r (Leaves From (ask path given) input input old new)
+words_stopped From path given input rest old new (Ok x) turns leaves = tt
+words_stopped From path given input rest old new (Err e) turns leaves =
+    (refl, (rest, turns, leaves))
 
 -- .. and over the built one
 pub built_stopped : {A : Type 0} (file given : List ℕ) (left old new : Option (List ℕ))

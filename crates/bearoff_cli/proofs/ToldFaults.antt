@@ -15,13 +15,13 @@ use Rattle.epc_query.specs.declared.run_fault.RunFault.{RunFault}
 use Rattle.epc_query.specs.declared.run_fault.RunFault.TheVariants.{Read as InputRead, Write as OutputWrite, Table}
 use Rattle.epc_query.specs.declared.run_fault.RunFault.TheVariants.{Memory as NoMemoryLeft, Turns as NoTurns}
 use Rattle.epc_query.specs.AnyFiles.{AnyFile}
-use Rattle.exit_status.specs.Causes.{of_check, of_run, of_upgrade}
-use Rattle.exit_status.specs.Lines.{error_line}
-use Rattle.exit_status.specs.Meanings.{meaning_line}
-use Rattle.exit_status.specs.Statuses.{status_of}
-use Rattle.exit_status.specs.declared.fault.Fault.{Fault}
-use Rattle.exit_status.specs.declared.fault.Fault.TheVariants.{Open, File, Read, Write, Memory, Turns, OverBound}
-use Rattle.exit_status.specs.declared.fault.Fault.TheVariants.{Refused, NotOld}
+use Rattle.bearoff_cli.specs.Causes.{of_check, of_run, of_upgrade}
+use Rattle.bearoff_cli.specs.Lines.{error_line}
+use Rattle.bearoff_cli.specs.Meanings.{meaning_line}
+use Rattle.bearoff_cli.specs.Statuses.{status_of}
+use Rattle.bearoff_cli.specs.declared.fault.Fault.{Fault}
+use Rattle.bearoff_cli.specs.declared.fault.Fault.TheVariants.{Open, File, Read, Write, Memory, Turns, OverBound}
+use Rattle.bearoff_cli.specs.declared.fault.Fault.TheVariants.{Refused, NotOld}
 use Rattle.command_line.specs.Asked.{Asked, default, build, check, query, ask, about, audit, upgrade}
 use Rattle.bearoff_cli.specs.Faults.{CanEnd, IsBoundFault, IsFaultIn, IsFirstBy, IsOwnFault, IsFaultOf}
 use Rattle.bearoff_cli.specs.StoppedRuns.{IsBare, IsEndOf, IsOfFile, IsRefusalOf, Leaves, RunsOut}

@@ -1,5 +1,5 @@
 -- What is said of both kinds of file. Source: this project's profile.
-use Rattle.std.specs.Prelude.{◌≡◌, ◌≤◌, ◌==◌, if◌then◌else◌, ℕ, List, Option}
+use Rattle.std.specs.Prelude.{◌≡◌, ◌≤◌, ◌==◌, if◌then◌else◌, ℕ, List, Option, Some, None}
 use Rattle.std.specs.Int.{w16, from_be_bytes}
 use Rattle.std.specs.Io.KnownBytes.{Appends}
 use Rattle.race_model.specs.BuiltFile.{IsBuilt}
@@ -25,6 +25,11 @@ stated_kind f = if from_be_bytes w16 (bytes_at f 8 2) == 3 then Board else Datab
 -- the file of that kind that has these bytes
 abbrev pub stated_file : List ℕ → AnyFile
 stated_file f = file_of (stated_kind f) f
+
+-- the file of a given kind, or of the stated one, that has these bytes
+abbrev pub file_as : Option FileKind → List ℕ → AnyFile
+file_as None = stated_file
+file_as (Some kind) = file_of kind
 
 -- the greatest pip bound of a file of this kind
 abbrev pub greatest : FileKind → ℕ

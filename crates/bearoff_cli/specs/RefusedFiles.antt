@@ -1,7 +1,7 @@
 -- What stays where the words are wrong or a database is refused (this project's profile).
 use Rattle.std.specs.Prelude.{◌≡◌, ◌<◌, Result, IfErr}
-use Rattle.exit_status.specs.Statuses.{status_of}
-use Rattle.exit_status.specs.declared.fault.Fault.{Fault}
+use Rattle.bearoff_cli.specs.Statuses.{status_of}
+use Rattle.bearoff_cli.specs.declared.fault.Fault.{Fault}
 use Rattle.bearoff_cli.specs.declared.act.ProgramFault.{ProgramFault}
 use Rattle.bearoff_cli.specs.declared.act.ProgramFault.TheVariants.{Words, Failed, Explained}
 

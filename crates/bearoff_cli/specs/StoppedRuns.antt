@@ -13,9 +13,9 @@ use Rattle.epc_query.specs.AnyFiles.{IsLevelLineBy}
 use Rattle.epc_query.specs.Runs.{IsRunStopped}
 use Rattle.epc_query.specs.declared.run_fault.RunFault.{RunFault}
 use Rattle.command_line.specs.Asked.{Asked, default, build, check, query, ask, about, audit, upgrade}
-use Rattle.exit_status.specs.Causes.{of_run}
-use Rattle.exit_status.specs.declared.fault.Fault.{Fault}
-use Rattle.exit_status.specs.declared.fault.Fault.TheVariants.{Open, File, Write, Memory, Refused}
+use Rattle.bearoff_cli.specs.Causes.{of_run}
+use Rattle.bearoff_cli.specs.declared.fault.Fault.{Fault}
+use Rattle.bearoff_cli.specs.declared.fault.Fault.TheVariants.{Open, File, Write, Memory, Refused}
 use Rattle.bearoff_cli.specs.Faults.{CanEnd, IsFaultOf, IsOwnFault}
 use Rattle.bearoff_cli.specs.FileAnswers.{AreLevelLines, about_file, count_line}
 use Rattle.bearoff_cli.specs.Kinds.{file_of, stated_file}

@@ -2,8 +2,8 @@
 use Rattle.std.specs.Prelude.{ℕ, ◌^◌, ◌≤◌, List, length, Option, Some}
 use Rattle.std.specs.Io.KnownBytes.{Consumes}
 use Rattle.db_reader.specs.Telling.{WhereTold}
-use Rattle.exit_status.specs.declared.fault.Fault.{Fault}
-use Rattle.exit_status.specs.declared.fault.Fault.TheVariants.{Turns}
+use Rattle.bearoff_cli.specs.declared.fault.Fault.{Fault}
+use Rattle.bearoff_cli.specs.declared.fault.Fault.TheVariants.{Turns}
 
 -- 2 ^ 40 bytes of an input were read at least, where the fault is that it didn't end within as many
 -- reads: each of them gave a byte

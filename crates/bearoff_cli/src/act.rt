@@ -7,12 +7,12 @@ ghost use Rattle.epc_query.specs.AnyFiles.{database_file, IsRightBy};
 ghost use Rattle.race_model.specs.Ranks.{count_to};
 ghost use Rattle.db_reader.specs.Telling.{WhereTold};
 ghost use Rattle.db_layout.specs.Writes.{AppendsPart};
-ghost use Rattle.exit_status.specs.Causes.{of_check};
-ghost use Rattle.exit_status.specs.Lines.{error_line};
-ghost use Rattle.exit_status.specs.Meanings.{meaning_line};
-ghost use Rattle.exit_status.specs.Statuses.{status_of};
-ghost use Rattle.exit_status.specs.declared.fault.Fault.{Fault};
-ghost use Rattle.exit_status.specs.declared.fault.Fault.TheVariants.{OverBound, Write};
+ghost use Rattle.bearoff_cli.specs.Causes.{of_check};
+ghost use Rattle.bearoff_cli.specs.Lines.{error_line};
+ghost use Rattle.bearoff_cli.specs.Meanings.{meaning_line};
+ghost use Rattle.bearoff_cli.specs.Statuses.{status_of};
+ghost use Rattle.bearoff_cli.specs.declared.fault.Fault.{Fault};
+ghost use Rattle.bearoff_cli.specs.declared.fault.Fault.TheVariants.{OverBound, Write};
 ghost use Rattle.command_line.specs.Asked.{Asked, IsAskedBy, asked_by};
 ghost use Rattle.certificate.specs.CheckFaults.{IsFirst};
 ghost use Rattle.certificate.specs.declared.check_fault.CheckFault.{CheckFault};
@@ -29,7 +29,7 @@ ghost use Rattle.bearoff_cli.specs.PutFiles.{KeepsBehind, KeepsUpgrade, LeavesBy
 ghost use Rattle.bearoff_cli.specs.PutFiles.{PutsFor, PutsUpgrade};
 ghost use Rattle.retrograde.specs.UsualVersion.{usual_version};
 ghost use Rattle.bearoff_cli.specs.FileAnswers.{count_line};
-ghost use Rattle.bearoff_cli.specs.Kinds.{IsBuiltOf, WritesBuiltOf, file_of, greatest, stated_file};
+ghost use Rattle.bearoff_cli.specs.Kinds.{IsBuiltOf, WritesBuiltOf, file_as, file_of, greatest, stated_file};
 ghost use Rattle.bearoff_cli.specs.RefusedFiles.{KeepsIfRefused, KeepsIfTold};
 ghost use Rattle.bearoff_cli.specs.Requests.{Asks, IsDone};
 ghost use Rattle.bearoff_cli.specs.StoppedRuns.{AreStopped, IsAboutEnd, IsEndOf, IsNothingOr, IsRefusalOf};
@@ -37,21 +37,23 @@ ghost use Rattle.bearoff_cli.specs.StoppedRuns.{IsUnreadEnd, LeavesLevels, Leave
 ghost use Rattle.bearoff_cli.specs.declared.act.Done.TheVariants.{Built};
 ghost use Rattle.bearoff_cli.specs.declared.act.ProgramFault.TheVariants.{Failed};
 
+use crate::fault::{Fault, write_fault};
 use crate::files::{
     Unread, affordable, build_file, flush, probe_stack, read_file, stack_room, upgrade_file,
+    write_flushed,
 };
 use crate::kinds::{
-    TURNS, accept, answer, greatest, handed_on, stated_kind, version, write_levels,
+    TURNS, accept, answer, greatest, handed_on, kind_of, stated_kind, version, write_levels,
 };
+use crate::meaning::{Reason, write_meaning};
 use arrayvec::ArrayString;
 use certificate::{CheckFault, Checked, check};
 use clap::Error;
 use clap::error::ErrorKind;
 use command_line::{FileKind, Request, read_words};
-use db_layout::{COMPACT_VERSION, WriteFault, write_bytes};
+use db_layout::{COMPACT_VERSION, WriteFault};
 use db_reader::{FileSource, Paged, Table, Whole};
 use epc_query::run;
-use exit_status::{Fault, Reason, write_fault, write_meaning};
 use itoa::Buffer;
 use ranking::Ranks;
 use retrograde::build;
@@ -350,14 +352,15 @@ fn fulfil<'a, D: Disk, I: Read, O: Write>(
             kind,
             path,
             cache: None,
-        } => refused(answer_file(disk, alloc, kind, path, input, output)),
+        } => refused(answer_file(disk, alloc, Some(kind), path, input, output)),
         Request::Query {
             path,
             cache: Some(records),
             ..
         } => refused(answer_pages(disk, alloc, path, records, input, output)),
         Request::Ask { path, lines } => {
-            refused(ask_file(disk, alloc, path, lines.as_str(), output))
+            let mut words = lines.as_str().as_bytes();
+            refused(answer_file(disk, alloc, None, path, &mut words, output))
         }
         Request::About { path } => about_file(disk, alloc, path, output),
         Request::Audit { kind, path } => refused(audit_file(disk, alloc, kind, path, output)),
@@ -389,12 +392,13 @@ fn answer_default<I: Read, O: Write>(
     answer_bytes(alloc, FileKind::Database, bytes.as_slice(), input, output)
 }
 
-/// Answers each line of the input over a file, which is read whole.
+/// Answers each line of the input over a file, which is read whole, of a kind, or of that which its
+/// header states.
 #[inline(never)]
 fn answer_file<D: Disk, I: Read, O: Write>(
     disk: &mut D,
     alloc: Global,
-    kind: FileKind,
+    kind: Option<FileKind>,
     path: &str,
     input: &mut I,
     output: &mut O,
@@ -402,50 +406,21 @@ fn answer_file<D: Disk, I: Read, O: Write>(
     ensures refused { KeepsIfRefused result (O.contents output.old) (O.contents output.new) }
     ensures cause { IfErr result IsQueryFault }
     ensures turns { IfErr result (UsesTurns (I.remaining input.old) (I.remaining input.new)) }
-    ensures fault { IfErr result (λ fault. IsOwnFault (file_of kind) (IsReadFrom D.Reader.remaining
+    ensures fault { IfErr result (λ fault. IsOwnFault (file_as kind) (IsReadFrom D.Reader.remaining
         (D.paths disk.old) (D.told disk.old) path.now) fault) }
-    ensures left { IfErr result (LeavesReplies (file_of kind) (IsReadFrom D.Reader.remaining
+    ensures left { IfErr result (LeavesReplies (file_as kind) (IsReadFrom D.Reader.remaining
         (D.paths disk.old) (D.told disk.old) path.now)
         (I.remaining input.old) (I.remaining input.new)
         (O.contents output.old) (O.contents output.new)) }
     ensures answers { OnOk result (WhereTold (I.remaining input.old) (λ given.
-        AreAnsweredFrom (file_of kind) (IsReadFrom D.Reader.remaining
+        AreAnsweredFrom (file_as kind) (IsReadFrom D.Reader.remaining
         (D.paths disk.old) (D.told disk.old) path.now) given (I.remaining input.new)
         (O.contents output.old) (O.contents output.new))) }
     ensures stays { D.told disk.new ≡ D.told disk.old }
 {
     let file = read_file(disk, alloc, path)?;
-    answer_bytes(alloc, kind, file.as_slice(), input, output)
-}
-
-/// Answers lines over a file of the kind that its header states, which is read whole. They are read
-/// as an input is that has their text.
-#[inline(never)]
-fn ask_file<D: Disk, O: Write>(
-    disk: &mut D,
-    alloc: Global,
-    path: &str,
-    lines: &str,
-    output: &mut O,
-) -> Result<(), Fault>
-    ensures refused { KeepsIfRefused result (O.contents output.old) (O.contents output.new) }
-    ensures cause { IfErr result IsQueryFault }
-    ensures fault { IfErr result (λ fault. IsOwnFault stated_file (IsReadFrom D.Reader.remaining
-        (D.paths disk.old) (D.told disk.old) path.now) fault) }
-    ensures left { IfErr result (λ fault. (rest : Option (List ℕ))
-        × UsesTurns (Some lines.now) rest fault
-        × LeavesReplies stated_file (IsReadFrom D.Reader.remaining
-        (D.paths disk.old) (D.told disk.old) path.now) (Some lines.now) rest
-        (O.contents output.old) (O.contents output.new) fault) }
-    ensures answers { OnOk result (AreAnsweredFrom stated_file (IsReadFrom D.Reader.remaining
-        (D.paths disk.old) (D.told disk.old) path.now) lines.now
-        (Some []) (O.contents output.old) (O.contents output.new)) }
-    ensures stays { D.told disk.new ≡ D.told disk.old }
-{
-    let file = read_file(disk, alloc, path)?;
     let bytes = file.as_slice();
-    let mut input = lines.as_bytes();
-    answer_bytes(alloc, stated_kind(bytes), bytes, &mut input, output)
+    answer_bytes(alloc, kind_of(kind, bytes), bytes, input, output)
 }
 
 /// Answers each line of the input over the database in a file, of which at most so many records
@@ -586,7 +561,8 @@ fn write_built<D: Disk, O: Write>(
         return Err(Fault::OverBound);
     }
     build_file(disk, alloc, kind, pips, path)?;
-    write_count(Done::Built, pips, output)
+    let line = count_line(Done::Built, pips);
+    write_flushed(line.as_str().as_bytes(), output)
 }
 
 /// Checks a file, and says that it was accepted.
@@ -613,7 +589,8 @@ fn check_file<D: Disk, O: Write>(
 {
     let bytes = read_file(disk, alloc, path)?;
     let kept = accept(kind, bytes.as_slice())?;
-    write_count(Done::Checked, kept.bound, output)
+    let line = count_line(Done::Checked, kept.bound);
+    write_flushed(line.as_str().as_bytes(), output)
 }
 
 /// Checks a file of the kind that its header states, and tells what it is. Where that fails by a
@@ -641,7 +618,10 @@ fn about_file<'a, D: Disk, O: Write>(
     let bytes = file.as_slice();
     let kind = stated_kind(bytes);
     match accept(kind, bytes) {
-        Ok(kept) => refused(write_about(kind, version(kind, kept), kept.bound, output)),
+        Ok(kept) => {
+            let text = about_text(kind, version(kind, kept), kept.bound);
+            refused(write_flushed(text.as_str().as_bytes(), output))
+        }
         Err(fault) => Err(ProgramFault::Explained(FileFault {
             fault,
             path,
@@ -666,32 +646,12 @@ fn explained<'a>(path: &'a str, unread: Unread) -> ProgramFault<'a>
     })
 }
 
-/// Writes what an accepted file is.
-// so that the room of the ranks is not part of its caller's
-#[inline(never)]
-fn write_about<O: Write>(
-    kind: FileKind,
-    version: u16,
-    pips: u8,
-    output: &mut O,
-) -> Result<(), Fault>
-    ensures cause { IfErr result (λ fault. fault ≡ Write) }
-    ensures part { OnErr result (AppendsPart (O.contents output.old) (O.contents output.new)
-        (about_text kind version pips (count_to pips))) }
-    ensures all { OnOk result (Appends (O.contents output.old) (O.contents output.new)
-        (about_text kind version pips (count_to pips))) }
-{
-    let text = about_text(kind, version, pips, Ranks::new().count_to(pips));
-    if write_bytes(text.as_str().as_bytes(), output).is_err() {
-        return Err(Fault::Write);
-    }
-    flush(output)
-}
-
 /// What a file is: its kind, its version, its pip bound and its number of positions, each on a
 /// line.
-fn about_text(kind: FileKind, version: u16, pips: u8, positions: u16) -> ArrayString<96>
-    ensures { result.bytes ≡ about_text kind version pips positions }
+// so that the room of the ranks is not part of its caller's
+#[inline(never)]
+fn about_text(kind: FileKind, version: u16, pips: u8) -> ArrayString<96>
+    ensures { result.bytes ≡ about_text kind version pips (count_to pips) }
 {
     let mut text: ArrayString<96> = ArrayString::new();
     text.push_str("kind ");
@@ -704,7 +664,7 @@ fn about_text(kind: FileKind, version: u16, pips: u8, positions: u16) -> ArraySt
     text.push_str("\npips ");
     text.push_str(Buffer::new().format(pips));
     text.push_str("\npositions ");
-    text.push_str(Buffer::new().format(positions));
+    text.push_str(Buffer::new().format(Ranks::new().count_to(pips)));
     text.push_str("\n");
     text
 }
@@ -770,7 +730,8 @@ fn upgrade_database<D: Disk, O: Write>(
         return Err(Fault::NotOld);
     }
     upgrade_file(disk, alloc, checked, new)?;
-    write_count(Done::Upgraded, checked.bound(), output)
+    let line = count_line(Done::Upgraded, checked.bound());
+    write_flushed(line.as_str().as_bytes(), output)
 }
 
 /// What was done with a database.
@@ -780,26 +741,11 @@ enum Done {
     Upgraded,
 }
 
-/// Writes what was done, with the pip bound and the number of positions.
+/// The line of what was done, with the pip bound and the number of positions.
 // so that the room of the ranks is not part of its caller's
 #[inline(never)]
-fn write_count<O: Write>(done: Done, pips: u8, output: &mut O) -> Result<(), Fault>
-    ensures cause { IfErr result (λ fault. fault ≡ Write) }
-    ensures part { OnErr result (AppendsPart (O.contents output.old) (O.contents output.new)
-        (count_line done pips (count_to pips))) }
-    ensures all { OnOk result (Appends (O.contents output.old) (O.contents output.new)
-        (count_line done pips (count_to pips))) }
-{
-    let line = count_line(done, pips, Ranks::new().count_to(pips));
-    if write_bytes(line.as_str().as_bytes(), output).is_err() {
-        return Err(Fault::Write);
-    }
-    flush(output)
-}
-
-/// The line of what was done.
-fn count_line(done: Done, pips: u8, positions: u16) -> ArrayString<64>
-    ensures { result.bytes ≡ count_line done pips positions }
+fn count_line(done: Done, pips: u8) -> ArrayString<64>
+    ensures { result.bytes ≡ count_line done pips (count_to pips) }
 {
     let mut line: ArrayString<64> = ArrayString::new();
     match done {
@@ -809,7 +755,7 @@ fn count_line(done: Done, pips: u8, positions: u16) -> ArrayString<64>
     }
     line.push_str(Buffer::new().format(pips));
     line.push_str(" positions ");
-    line.push_str(Buffer::new().format(positions));
+    line.push_str(Buffer::new().format(Ranks::new().count_to(pips)));
     line.push_str("\n");
     line
 }

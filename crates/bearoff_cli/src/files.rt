@@ -1,8 +1,8 @@
 //! Files, read and written by blocks.
 ghost use Rattle.std.specs.Prelude.{◌≡◌, ◌≤◌, length, take, Ok, Err, IfOk, IfErr, OnOk, OnErr};
-ghost use Rattle.std.specs.Io.KnownBytes.{Consumes, IsAtEnd, Keeps};
-ghost use Rattle.exit_status.specs.Statuses.{status_of};
-ghost use Rattle.exit_status.specs.declared.fault.Fault.TheVariants.{File, Write, Memory};
+ghost use Rattle.std.specs.Io.KnownBytes.{Appends, Consumes, IsAtEnd, Keeps};
+ghost use Rattle.bearoff_cli.specs.Statuses.{status_of};
+ghost use Rattle.bearoff_cli.specs.declared.fault.Fault.TheVariants.{File, Write, Memory};
 ghost use Rattle.retrograde.specs.BuiltBoards.{IsBuiltBoard};
 ghost use Rattle.bearoff_cli.specs.Faults.{IsBuildFault, IsReadFault, IsUpgradeFault, of_unread};
 ghost use Rattle.bearoff_cli.specs.FileAnswers.{IsHandedTo, IsReadFrom};
@@ -10,6 +10,7 @@ ghost use Rattle.bearoff_cli.specs.Kinds.{IsBuiltOf, WritesBuiltOf, greatest};
 ghost use Rattle.bearoff_cli.specs.PutFiles.{IsEnded, KeepsBehind};
 ghost use Rattle.command_line.specs.declared.words.FileKind.TheVariants.{Database, Board};
 ghost use Rattle.race_model.specs.Versions.{full};
+ghost use Rattle.db_layout.specs.Writes.{AppendsPart};
 ghost use Rattle.db_reader.specs.Telling.{WhereTold};
 ghost use Rattle.certificate.specs.Upgrades.{WritesUpgrade};
 ghost use Rattle.race_model.specs.Upgrades.{IsUpgrade};
@@ -18,11 +19,11 @@ ghost use Rattle.whole_file.specs.Drafts.{IsBegun, IsDropped, IsPut};
 ghost use Rattle.whole_file.specs.Paths.{PathStays};
 ghost use Rattle.whole_file.specs.Puts.{Puts};
 
+use crate::fault::Fault;
 use certificate::Checked;
 use command_line::FileKind;
 use db_layout::{BoardHeader, write_bytes};
 use db_reader::Table;
-use exit_status::Fault;
 use retrograde::{ReadyBuild, build_board};
 use std::alloc::{AllocError, Global};
 use std::io;
@@ -315,11 +316,7 @@ fn build_board_into<O: Write>(pips: u8, room: &mut Vec<u8>, output: &mut O) -> R
     ensures built { OnOk result (WritesBuiltOf Board pips (O.contents output.old)
         (O.contents output.new)) }
 {
-    let file = whole_board(pips, room)?;
-    if write_bytes(file, output).is_err() {
-        return Err(Fault::Write);
-    }
-    flush(output)
+    write_flushed(whole_board(pips, room)?, output)
 }
 
 /// The board file of a pip bound, made in a room that has as many bytes.
@@ -375,6 +372,20 @@ fn upgrade_into<T: Table, O: Write>(checked: &mut Checked<T>, output: &mut O) ->
 {
     checked.upgrade(output)?;
     flush(output)
+}
+
+/// Writes bytes, and hands on what the writer may still hold.
+pub fn write_flushed<O: Write>(bytes: &[u8], output: &mut O) -> Result<(), Fault>
+    ensures cause { IfErr result (λ fault. fault ≡ Write) }
+    ensures part { OnErr result
+        (AppendsPart (O.contents output.old) (O.contents output.new) bytes.now) }
+    ensures all { OnOk result
+        (Appends (O.contents output.old) (O.contents output.new) bytes.now) }
+{
+    match write_bytes(bytes, output) {
+        Ok(()) => flush(output),
+        Err(_) => Err(Fault::Write),
+    }
 }
 
 /// Hands on what a writer may still hold.

@@ -8,15 +8,16 @@ ghost use Rattle.certificate.specs.declared.check_fault.CheckFault.{CheckFault};
 ghost use Rattle.epc_query.specs.AnyFiles.{AnyFile, bound_by, IsRightBy};
 ghost use Rattle.epc_query.specs.Runs.{IsRunStopped};
 ghost use Rattle.epc_query.specs.UsedReads.{HasUsed};
-ghost use Rattle.exit_status.specs.Causes.{of_check};
-ghost use Rattle.exit_status.specs.declared.fault.Fault.TheVariants.{Write};
+ghost use Rattle.bearoff_cli.specs.Causes.{of_check};
+ghost use Rattle.bearoff_cli.specs.declared.fault.Fault.TheVariants.{Write};
 ghost use Rattle.bearoff_cli.specs.Faults.{IsAnswerFault, IsFirstBy};
 ghost use Rattle.bearoff_cli.specs.FileAnswers.{WritesLevel, WritesLevels, version_in};
 ghost use Rattle.bearoff_cli.specs.InputAnswers.{AreAnswered};
-ghost use Rattle.bearoff_cli.specs.Kinds.{IsKept, file_of, greatest, stated_kind};
+ghost use Rattle.bearoff_cli.specs.Kinds.{IsKept, file_as, file_of, greatest, stated_kind};
 ghost use Rattle.bearoff_cli.specs.StoppedRuns.{AreStopped, WritesLevelPart, WritesLevelsPart};
 ghost use Rattle.bearoff_cli.specs.Turns.{UsesTurns};
 
+use crate::fault::Fault;
 use crate::files::flush;
 use certificate::check_board;
 use command_line::FileKind;
@@ -25,7 +26,6 @@ use epc_query::laws::law_level_text;
 use epc_query::{
     Accepted, Board, BoardText, Database, RunFault, Text, board_level, put_board_level, run_lines,
 };
-use exit_status::Fault;
 use home_board::MAX_BOUND;
 use query_text::write_line;
 use ranking::RankTable;
@@ -63,6 +63,16 @@ pub fn stated_kind(bytes: &[u8]) -> FileKind
     match read_short(bytes, VERSION_PLACE) {
         BOARD_VERSION => FileKind::Board,
         _ => FileKind::Database,
+    }
+}
+
+/// The given kind, or that which the header of a file states.
+pub fn kind_of(given: Option<FileKind>, bytes: &[u8]) -> FileKind
+    ensures { file_of result bytes.now ≡ file_as given bytes.now }
+{
+    match given {
+        Some(kind) => kind,
+        None => stated_kind(bytes),
     }
 }
 

@@ -4,7 +4,7 @@
 #![tactic(auto)]
 
 use act::act;
-use exit_status::{Fault, write_fault};
+use fault::{Fault, write_fault};
 use prompt::Prompted;
 use std::fs::File;
 use std::io::{BufWriter, IsTerminal};
@@ -13,8 +13,10 @@ use std::process::ExitCode;
 use std::{env, fs, io};
 
 pub mod act;
+pub mod fault;
 pub mod files;
 pub mod kinds;
+pub mod meaning;
 pub mod prompt;
 
 /// What the system says of a number that is no open file's (`EBADF`).

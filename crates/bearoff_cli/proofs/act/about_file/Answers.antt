@@ -1,5 +1,5 @@
 -- What is told of the bytes that were read, which have this first fault.
-use Rattle.std.proofs.Common.{inl, inr, refl, subst, sym}
+use Rattle.std.proofs.Common.{◌∙◌, inl, inr, refl, subst, sym}
 use Rattle.bearoff_cli.specs.FileAnswers.{IsReadFrom}
 use Rattle.bearoff_cli.specs.Kinds.{file_of}
 use Rattle.bearoff_cli.specs.FileAnswers.{about_file}
@@ -38,13 +38,14 @@ returns-in-Ok-accept-clause-about g c =
     let kind = c.stated_kind-kind.ensures in
     let kept = c.in-Ok-accept.ensures in
     let right = rw kind at kept.right in
+    let line = c.as_bytes.ensures.value ∙ c.as_str.ensures.value ∙ c.about_text-text.ensures in
     let text = about_is file _ _ _ kind (rw kind at (c.version.ensures file kept.kept))
     (rw kind at kept.bound) in
     let old = g.O.Write.contents c.args.output.now in
-    let new = g.O.Write.contents c.write_about.new.output in
-    done_if c.write_about.result c.refused.result
-    (says_about from file _ old new c.write_about.result read right text
-    c.write_about.ensures.all) (λ said. said) c.refused.ensures.fault
+    let new = g.O.Write.contents c.write_flushed.new.output in
+    done_if c.write_flushed.result c.refused.result
+    (says_about from file _ old new c.write_flushed.result read right text
+    (rw line at c.write_flushed.ensures.all)) (λ said. said) c.refused.ensures.fault
 
 pub returns-in-Ok-accept-clause-fault : goal.returns-in-Ok-accept-clause-fault
 returns-in-Ok-accept-clause-fault g c =
@@ -55,12 +56,13 @@ returns-in-Ok-accept-clause-fault g c =
     let kind = c.stated_kind-kind.ensures in
     let kept = c.in-Ok-accept.ensures in
     let right = rw kind at kept.right in
+    let line = c.as_bytes.ensures.value ∙ c.as_str.ensures.value ∙ c.about_text-text.ensures in
     let text = about_is file _ _ _ kind (rw kind at (c.version.ensures file kept.kept))
     (rw kind at kept.bound) in
     let old = g.O.Write.contents c.args.output.now in
-    let new = g.O.Write.contents c.write_about.new.output in
-    written_end from c.args.path.now old new c.write_about.result c.refused.result
-    c.write_about.ensures.cause (read_part stated_file from
-    (λ f. AppendsPart old new (about_file f)) file old new c.write_about.result read right
-    (err-weaker c.write_about.result (λ part. subst (λ text. AppendsPart old new text) text part)
-    c.write_about.ensures.part)) c.refused.ensures.done c.refused.ensures.fault
+    let new = g.O.Write.contents c.write_flushed.new.output in
+    written_end from c.args.path.now old new c.write_flushed.result c.refused.result
+    c.write_flushed.ensures.cause (read_part stated_file from
+    (λ f. AppendsPart old new (about_file f)) file old new c.write_flushed.result read right
+    (err-weaker c.write_flushed.result (λ part. subst (λ text. AppendsPart old new text) text part)
+    (rw line at c.write_flushed.ensures.part))) c.refused.ensures.done c.refused.ensures.fault

@@ -1,5 +1,5 @@
 -- The fault of the bytes that were read, and the line of what was accepted.
-use Rattle.std.proofs.Common.{◌≡◌, Err, inr, ap, subst, sym, rules}
+use Rattle.std.proofs.Common.{◌≡◌, ◌∙◌, Err, inr, ap, subst, sym, rules}
 use Rattle.race_model.specs.Ranks.{count_to}
 use Rattle.bearoff_cli.specs.Kinds.{file_of}
 use Rattle.bearoff_cli.specs.FileAnswers.{IsReadFrom}
@@ -32,13 +32,14 @@ returns-clause-left g c =
     (sym c.as_slice.ensures.value) c.in_ok-bytes.ensures.read in
     let kept = c.in_ok-kept.ensures in
     let old = g.O.Write.contents c.args.output.now in
-    let new = g.O.Write.contents c.write_count.new.output in
+    let new = g.O.Write.contents c.write_flushed.new.output in
+    let line = c.as_bytes.ensures.value ∙ c.as_str.ensures.value ∙ c.count_line-line.ensures in
     read_part (file_of c.args.kind) (IsReadFrom g.D.Reader.Read.remaining
     (g.D.Disk.paths c.args.disk.now) (g.D.Disk.told c.args.disk.now) c.args.path.now)
     (λ f. SaysRightPart (file_of c.args.kind f) old new) file old new
-    c.write_count.result read kept.right (err-weaker c.write_count.result
+    c.write_flushed.result read kept.right (err-weaker c.write_flushed.result
     (line_part old new Checked _ _ _ kept.bound (ap count_to kept.bound))
-    c.write_count.ensures.part)
+    (rw line at c.write_flushed.ensures.part))
 
 pub returns-clause-right : goal.returns-clause-right
 returns-clause-right g c =
@@ -47,5 +48,6 @@ returns-clause-right g c =
     let file = c.as_slice.result.now in
     let read = subst from (sym c.as_slice.ensures.value) c.in_ok-bytes.ensures.read in
     let kept = c.in_ok-kept.ensures in
-    says_right (file_of c.args.kind) from file _ _ _ c.write_count.result read kept.right kept.bound
-    c.write_count.ensures.all
+    let line = c.as_bytes.ensures.value ∙ c.as_str.ensures.value ∙ c.count_line-line.ensures in
+    says_right (file_of c.args.kind) from file _ _ _ c.write_flushed.result read kept.right kept.bound
+    (rw line at c.write_flushed.ensures.all)

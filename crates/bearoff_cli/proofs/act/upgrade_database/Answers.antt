@@ -7,7 +7,7 @@ use Rattle.race_model.specs.Ranks.{count_to}
 use Rattle.race_model.specs.Files.{version_of}
 use Rattle.race_model.specs.RightFiles.{IsRightDatabase}
 use Rattle.epc_query.specs.AnyFiles.{database_file}
-use Rattle.exit_status.specs.Statuses.{status_of}
+use Rattle.bearoff_cli.specs.Statuses.{status_of}
 use Rattle.bearoff_cli.specs.FileAnswers.{IsReadFrom}
 use Rattle.bearoff_cli.specs.StoppedRuns.{SaysUpgradedPart}
 use Rattle.bearoff_cli.specs.declared.act.Done.TheVariants.{Upgraded}
@@ -33,12 +33,13 @@ returns-clause-upgraded g c =
     is_full (version_of file) (λ e. c.if-version-eq-COMPACT_VERSION.false (version ∙ e)) in
     let bound = c.bound.ensures.bound ∙ (c.bound.ensures.right file
     (c.in_ok-upgrade_file.ensures.stays.0 ∙ told)).1 in
+    let line = c.as_bytes.ensures.value ∙ c.as_str.ensures.value ∙ c.count_line-line.ensures in
     upgrade_read (IsReadFrom g.D.Reader.Read.remaining
     (g.D.Disk.paths c.args.disk.now) (g.D.Disk.told c.args.disk.now) c.args.old.now)
     (writer_contents g.D.File.Write.contents) file _ _
-    c.write_count.result _ _ read right old
+    c.write_flushed.result _ _ read right old
     (c.in_ok-upgrade_file.ensures.upgraded file told) bound
-    (ap count_to bound) c.write_count.ensures.all
+    (ap count_to bound) (rw line at c.write_flushed.ensures.all)
 
 pub returns-clause-put : goal.returns-clause-put
 returns-clause-put g c =
@@ -52,7 +53,7 @@ returns-clause-put g c =
     let version = c.version.ensures.version file told in
     let old =
     is_full (version_of file) (λ e. c.if-version-eq-COMPACT_VERSION.false (version ∙ e)) in
-    on_ok c.write_count.result _ (
+    on_ok c.write_flushed.result _ (
       file,
       right,
       old,
@@ -78,17 +79,18 @@ returns-clause-left g c =
     let bound = c.bound.ensures.bound ∙ (c.bound.ensures.right file
     (c.in_ok-upgrade_file.ensures.stays.0 ∙ told)).1 in
     let old = g.O.Write.contents c.args.output.now in
-    let new = g.O.Write.contents c.write_count.new.output in
+    let new = g.O.Write.contents c.write_flushed.new.output in
+    let line = c.as_bytes.ensures.value ∙ c.as_str.ensures.value ∙ c.count_line-line.ensures in
     read_part database_file (IsReadFrom g.D.Reader.Read.remaining
     (g.D.Disk.paths c.args.disk.now) (g.D.Disk.told c.args.disk.now) c.args.old.now)
     (λ f. SaysUpgradedPart f old new) file old new
-    c.write_count.result read right (err-weaker c.write_count.result
+    c.write_flushed.result read right (err-weaker c.write_flushed.result
     (λ part. (
       full,
       line_part old new Upgraded _ _ _ bound
           (ap count_to bound) part,
     ))
-    c.write_count.ensures.part)
+    (rw line at c.write_flushed.ensures.part))
 
 pub returns-in_err-checked-clause-fault : goal.returns-in_err-checked-clause-fault
 returns-in_err-checked-clause-fault g c =
@@ -170,8 +172,8 @@ returns-in_err-upgrade_file-clause-stays g c =
 
 pub returns-clause-stays : goal.returns-clause-stays
 returns-clause-stays g c =
-    IfErr-weaker c.write_count.result _ _ (λ fault is. low_status fault _ _ (ap status_of is))
-    c.write_count.ensures.cause
+    IfErr-weaker c.write_flushed.result _ _ (λ fault is. low_status fault _ _ (ap status_of is))
+    c.write_flushed.ensures.cause
 
 pub returns-then-version-eq-COMPACT_VERSION-clause-fault :
     goal.returns-then-version-eq-COMPACT_VERSION-clause-fault

@@ -3,8 +3,8 @@ use Rattle.std.proofs.Common.{◌≡◌, Result, Ok, Err, OnOk, ℕ, List, Optio
 use Rattle.std.specs.Io.KnownBytes.{Appends}
 use Rattle.db_layout.proofs.Known.{appends_twice}
 use Rattle.query_text.proofs.Held.{part_after, part_longer}
-use Rattle.exit_status.specs.Lines.{error_line}
-use Rattle.exit_status.specs.Meanings.{meaning_line}
+use Rattle.bearoff_cli.specs.Lines.{error_line}
+use Rattle.bearoff_cli.specs.Meanings.{meaning_line}
 use Rattle.bearoff_cli.proofs.act.write_explained.Goals as goal
 
 -- what was written after the line is written after all before it

@@ -11,9 +11,9 @@ use Rattle.retrograde.specs.declared.build_fault.BuildFault.TheVariants.{Write a
 use Rattle.epc_query.specs.declared.run_fault.RunFault.{RunFault}
 use Rattle.epc_query.specs.declared.run_fault.RunFault.TheVariants.{Read as InputRead, Write as OutputWrite, Table}
 use Rattle.epc_query.specs.declared.run_fault.RunFault.TheVariants.{Memory as NoMemoryLeft, Turns as NoTurns}
-use Rattle.exit_status.specs.declared.fault.Fault.{Fault}
-use Rattle.exit_status.specs.declared.fault.Fault.TheVariants.{File, Read, Write, Memory, Turns, OverBound, Refused}
-use Rattle.exit_status.specs.declared.fault.Fault.TheVariants.{NotOld}
+use Rattle.bearoff_cli.specs.declared.fault.Fault.{Fault}
+use Rattle.bearoff_cli.specs.declared.fault.Fault.TheVariants.{File, Read, Write, Memory, Turns, OverBound, Refused}
+use Rattle.bearoff_cli.specs.declared.fault.Fault.TheVariants.{NotOld}
 
 -- a database is refused for what it holds; where it could not be read, the file failed
 abbrev pub of_check : CheckFault → Fault

@@ -3,8 +3,8 @@ use Rattle.std.proofs.Common.{◌++◌, Result, Ok, Err, OnOk, OnErr, ℕ, List,
 use Rattle.std.specs.Io.KnownBytes.{Appends}
 use Rattle.db_layout.specs.Writes.{AppendsPart}
 use Rattle.query_text.proofs.Held.{part_after, part_all, part_longer}
-use Rattle.exit_status.specs.Meanings.{after_colon, meaning_of}
-use Rattle.exit_status.proofs.meaning.write_meaning.Goals as goal
+use Rattle.bearoff_cli.specs.Meanings.{after_colon, meaning_of}
+use Rattle.bearoff_cli.proofs.meaning.write_meaning.Goals as goal
 
 -- a part was written, whether all of it was or not
 either : {A E : Type 0} (old new : Option (List ℕ)) (bytes : List ℕ) (r : Result A E)

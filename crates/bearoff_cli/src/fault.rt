@@ -3,10 +3,10 @@
 ghost use Rattle.std.specs.Prelude.{◌≡◌, ◌≤◌, length, OnOk};
 ghost use Rattle.std.specs.Io.KnownBytes.{Appends};
 ghost use Rattle.db_layout.specs.Writes.{AppendsPart};
-ghost use Rattle.exit_status.specs.Causes.{of_check, of_build, of_upgrade, of_run};
-ghost use Rattle.exit_status.specs.Lines.{word_of, error_line};
-ghost use Rattle.exit_status.specs.Statuses.{status_of};
-ghost use Rattle.exit_status.specs.declared.fault.Fault.TheVariants.{Memory, Refused};
+ghost use Rattle.bearoff_cli.specs.Causes.{of_check, of_build, of_upgrade, of_run};
+ghost use Rattle.bearoff_cli.specs.Lines.{word_of, error_line};
+ghost use Rattle.bearoff_cli.specs.Statuses.{status_of};
+ghost use Rattle.bearoff_cli.specs.declared.fault.Fault.TheVariants.{Memory, Refused};
 
 use arrayvec::ArrayString;
 use certificate::{CheckFault, UpgradeFault, fault_line};

@@ -6,8 +6,8 @@ use Rattle.certificate.specs.declared.check_fault.CheckFault.TheVariants.{Read a
 use Rattle.db_layout.specs.declared.header.HeaderFault.{HeaderFault}
 use Rattle.db_layout.specs.declared.header.HeaderFault.TheVariants.{TooShort, BadMagic, BadVersion, BadBound, BadCount}
 use Rattle.db_layout.specs.declared.header.HeaderFault.TheVariants.{BadRecordBytes, BadReserved, BadLength}
-use Rattle.exit_status.specs.declared.fault.Fault.{Fault}
-use Rattle.exit_status.specs.declared.fault.Fault.TheVariants.{Open, File, Refused}
+use Rattle.bearoff_cli.specs.declared.fault.Fault.{Fault}
+use Rattle.bearoff_cli.specs.declared.fault.Fault.TheVariants.{Open, File, Refused}
 
 -- what the first fault of a header means
 abbrev pub header_meaning : HeaderFault → List ℕ

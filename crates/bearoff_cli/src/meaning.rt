@@ -2,7 +2,7 @@
 ghost use Rattle.std.specs.Prelude.{◌≡◌, ◌≤◌, ◌++◌, codes, length, OnOk};
 ghost use Rattle.std.specs.Io.KnownBytes.{Appends};
 ghost use Rattle.db_layout.specs.Writes.{AppendsPart};
-ghost use Rattle.exit_status.specs.Meanings.{after_colon, header_meaning, meaning_line, meaning_of, refusal_meaning};
+ghost use Rattle.bearoff_cli.specs.Meanings.{after_colon, header_meaning, meaning_line, meaning_of, refusal_meaning};
 
 use crate::fault::Fault;
 use arrayvec::ArrayString;

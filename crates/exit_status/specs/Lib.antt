@@ -1,4 +1,0 @@
-pub mod Causes
-pub mod Lines
-pub mod Meanings
-pub mod Statuses
