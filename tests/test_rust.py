@@ -38,7 +38,7 @@ def test_its_tests(cargo, note):
     done = cargo("test", "--release")
     expect_that(done.status == 0, done, "no test that fails")
     counts = [line for line in done.output.decode().splitlines() if line.startswith("test result")]
-    assert len(counts) == 3 and "0 passed" not in counts[1], "its tests ran, and its examples"
+    assert len(counts) == 3 and " 0 passed" not in counts[1], "its tests ran, and its examples"
     note(f"rust: {' / '.join(counts)}")
 
 
