@@ -36,6 +36,7 @@ ghost use Rattle.bearoff_cli.specs.StoppedRuns.{AreStopped, IsAboutEnd, IsEndOf,
 ghost use Rattle.bearoff_cli.specs.StoppedRuns.{IsUnreadEnd, LeavesLevels, LeavesLine, LeavesReplies, SaysUpgradedPart};
 ghost use Rattle.bearoff_cli.specs.declared.act.Done.TheVariants.{Built};
 ghost use Rattle.bearoff_cli.specs.declared.act.ProgramFault.TheVariants.{Failed};
+ghost use Rattle.bearoff_cli.specs.declared.act.Report.TheVariants.{Count, Levels};
 
 use crate::fault::{Fault, write_fault};
 use crate::files::{
@@ -373,7 +374,9 @@ fn fulfil<'a, D: Disk, I: Read, O: Write>(
         Request::Build { kind, pips, path } => {
             refused(write_built(disk, alloc, kind, pips, path, output))
         }
-        Request::Check { kind, path } => refused(check_file(disk, alloc, kind, path, output)),
+        Request::Check { kind, path } => {
+            refused(report_file(disk, alloc, kind, path, Report::Count, output))
+        }
         Request::Query {
             kind,
             path,
@@ -389,7 +392,9 @@ fn fulfil<'a, D: Disk, I: Read, O: Write>(
             refused(answer_file(disk, alloc, None, path, &mut words, output))
         }
         Request::About { path } => about_file(disk, alloc, path, output),
-        Request::Audit { kind, path } => refused(audit_file(disk, alloc, kind, path, output)),
+        Request::Audit { kind, path } => {
+            refused(report_file(disk, alloc, kind, path, Report::Levels, output))
+        }
         Request::Upgrade { old, new } => refused(upgrade_database(disk, alloc, old, new, output)),
     }
 }
@@ -591,32 +596,53 @@ fn write_built<D: Disk, O: Write>(
     write_flushed(line.as_str().as_bytes(), output)
 }
 
-/// Checks a file, and says that it was accepted.
+/// What is told of a file that was accepted.
+#[derive(Drop)]
+enum Report {
+    /// That it was, with its bound and its number of positions.
+    Count,
+
+    /// A line for each pip count.
+    Levels,
+}
+
+/// Checks a file, and tells this of it.
 #[inline(never)]
-fn check_file<D: Disk, O: Write>(
+fn report_file<D: Disk, O: Write>(
     disk: &mut D,
     alloc: Global,
     kind: FileKind,
     path: &str,
+    report: Report,
     output: &mut O,
 ) -> Result<(), Fault>
     ensures refused { KeepsIfRefused result (O.contents output.old) (O.contents output.new) }
     ensures cause { IfErr result IsCheckFault }
     ensures fault { IfErr result (λ fault. IsOwnFault (file_of kind) (IsReadFrom D.Reader.remaining
         (D.paths disk.old) (D.told disk.old) path.now) fault) }
-    ensures left { OnErr result (LeavesLine (file_of kind) (IsReadFrom D.Reader.remaining
-        (D.paths disk.old) (D.told disk.old) path.now)
+    ensures right { report ≡ Count → OnOk result (SaysRight (file_of kind)
+        (IsReadFrom D.Reader.remaining (D.paths disk.old) (D.told disk.old) path.now)
         (O.contents output.old) (O.contents output.new)) }
-    ensures right { OnOk result
-        (SaysRight (file_of kind) (IsReadFrom D.Reader.remaining
-        (D.paths disk.old) (D.told disk.old) path.now)
+    ensures left { report ≡ Count → OnErr result (LeavesLine (file_of kind)
+        (IsReadFrom D.Reader.remaining (D.paths disk.old) (D.told disk.old) path.now)
+        (O.contents output.old) (O.contents output.new)) }
+    ensures levels { report ≡ Levels → OnOk result (SaysLevels (file_of kind)
+        (IsReadFrom D.Reader.remaining (D.paths disk.old) (D.told disk.old) path.now)
+        (O.contents output.old) (O.contents output.new)) }
+    ensures left_levels { report ≡ Levels → OnErr result (LeavesLevels (file_of kind)
+        (IsReadFrom D.Reader.remaining (D.paths disk.old) (D.told disk.old) path.now)
         (O.contents output.old) (O.contents output.new)) }
     ensures stays { D.told disk.new ≡ D.told disk.old }
 {
     let bytes = read_file(disk, alloc, path)?;
     let kept = accept(kind, bytes.as_slice())?;
-    let line = count_line(Done::Checked, kept.bound);
-    write_flushed(line.as_str().as_bytes(), output)
+    match report {
+        Report::Count => {
+            let line = count_line(Done::Checked, kept.bound);
+            write_flushed(line.as_str().as_bytes(), output)
+        }
+        Report::Levels => write_levels(kind, kept, bytes.as_slice(), output),
+    }
 }
 
 /// Checks a file of the kind that its header states, and tells what it is. Where that fails by a
@@ -693,33 +719,6 @@ fn about_text(kind: FileKind, version: u16, pips: u8) -> ArrayString<96>
     text.push_str(Buffer::new().format(Ranks::new().count_to(pips)));
     text.push_str("\n");
     text
-}
-
-/// Checks a file, and writes a line for each pip count.
-#[inline(never)]
-fn audit_file<D: Disk, O: Write>(
-    disk: &mut D,
-    alloc: Global,
-    kind: FileKind,
-    path: &str,
-    output: &mut O,
-) -> Result<(), Fault>
-    ensures refused { KeepsIfRefused result (O.contents output.old) (O.contents output.new) }
-    ensures cause { IfErr result IsCheckFault }
-    ensures fault { IfErr result (λ fault. IsOwnFault (file_of kind) (IsReadFrom D.Reader.remaining
-        (D.paths disk.old) (D.told disk.old) path.now) fault) }
-    ensures left { OnErr result (LeavesLevels (file_of kind) (IsReadFrom D.Reader.remaining
-        (D.paths disk.old) (D.told disk.old) path.now)
-        (O.contents output.old) (O.contents output.new)) }
-    ensures levels { OnOk result
-        (SaysLevels (file_of kind) (IsReadFrom D.Reader.remaining
-        (D.paths disk.old) (D.told disk.old) path.now)
-        (O.contents output.old) (O.contents output.new)) }
-    ensures stays { D.told disk.new ≡ D.told disk.old }
-{
-    let bytes = read_file(disk, alloc, path)?;
-    let kept = accept(kind, bytes.as_slice())?;
-    write_levels(kind, kept, bytes.as_slice(), output)
 }
 
 /// Checks the database in an old file, writes it into a new one as a file of version 2, and says
