@@ -1117,13 +1117,6 @@ class TestAbout:
     def test_the_whole_board(self, files, ask, whole):
         expect(ask(["about", whole]), 0, "kind board file\nversion 3\npips 90\npositions 54264")
 
-    def test_the_input_stays(self, files, program):
-        Path("lines").write_text(THREE)
-        with open("lines", "rb", buffering=0) as lines:
-            done = subprocess.run([program, "about", "eight"], stdin=lines, capture_output=True)
-            assert (done.returncode, done.stderr) == (0, b"")
-            assert lines.read() == THREE.encode()
-
     @pytest.mark.parametrize("which", [*HEADERS, *RECORDS])
     def test_refusals(self, files, ask, built, which):
         shutil.copy(built(1, is_new=True), "one_new")

@@ -72,7 +72,8 @@ returns-in-Ok-told_of_shown-clause-fault g c asked asks =
     let equal : c.eq.result ≡ true = rw kind at c.eq.ensures in
     absurd (subst (λ b. IsNot b) (sym c.if-eq.false ∙ equal) tt)
 
-pub returns-in-Err-told_of_shown-clause-fault : goal.returns-in-Err-told_of_shown-clause-fault
+pub returns-in-Err-told_of_shown-clause-fault :
+    goal.returns-in-Err-told_of_shown-clause-fault
 returns-in-Err-told_of_shown-clause-fault g c asked asks =
     memory_refusal (IsReadFrom g.D.Reader.Read.remaining
     (g.D.Disk.paths c.args.disk.now) (g.D.Disk.told c.args.disk.now))
