@@ -54,7 +54,8 @@ abbrev pub after_colon : List ℕ → List ℕ
 after_colon [] = []
 after_colon (x ∷ xs) = codes ": " ++ x ∷ xs
 
--- the line of what a fault means of the file at a path that is shown so, of which the system says this
+-- the line of what a fault means of the file at a path, as it is shown, of which the system says
+-- this
 abbrev pub meaning_line : List ℕ → Fault → List ℕ → List ℕ
 meaning_line path fault reason =
     path ++ (codes ": " ++ (meaning_of fault ++ (after_colon reason ++ codes "\n")))

@@ -40,9 +40,9 @@ fn shown_letter(letter: char) -> char
     }
 }
 
-/// Writes what a fault means of the file at a path that is shown so, on a line of its own: the path,
-/// the meaning, and what the system says of it, where it says anything. Refused only where a `write` fails or
-/// takes no byte; then a prefix of the line was written.
+/// Writes what a fault means of the file at a path, as it is shown, on a line of its own: the path,
+/// the meaning, and what the system says of it, where it says anything. Refused only where a
+/// `write` fails or takes no byte; then a prefix of the line was written.
 pub fn write_meaning<E: Write>(
     fault: &Fault,
     path: &str,

@@ -66,7 +66,8 @@ returns-in-Ok-clause-explained g c =
 -- words that ask for a request are not wrong
 pub returns-in-Ok-told_of_shown-clause-fault : goal.returns-in-Ok-told_of_shown-clause-fault
 returns-in-Ok-told_of_shown-clause-fault g c asked asks =
-    let gives = read g (goal.at.returns-in-Ok-told_of_shown-clause-fault g c).After-read_words asked asks in
+    let at = goal.at.returns-in-Ok-told_of_shown-clause-fault g c in
+    let gives = read g at.After-read_words asked asks in
     let memory = subst (λ r. IfErr r (λ error. kind_of error ≡ OutOfMemory)) c.in-Err.is gives.1 in
     let kind : c.kind.result ≡ OutOfMemory = c.kind.ensures ∙ memory in
     let equal : c.eq.result ≡ true = rw kind at c.eq.ensures in

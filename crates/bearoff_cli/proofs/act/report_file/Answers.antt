@@ -49,8 +49,8 @@ returns-in-Count-clause-right g c is =
     let read = subst from (sym c.as_slice.ensures.value) c.in_ok-bytes.ensures.read in
     let kept = c.in_ok-kept.ensures in
     let line = c.as_bytes.ensures.value ∙ c.as_str.ensures.value ∙ c.count_line-line.ensures in
-    says_right (file_of c.args.kind) from file _ _ _ c.write_flushed.result read kept.right kept.bound
-    (rw line at c.write_flushed.ensures.all)
+    says_right (file_of c.args.kind) from file _ _ _ c.write_flushed.result read kept.right
+    kept.bound (rw line at c.write_flushed.ensures.all)
 
 pub returns-clause-levels : goal.returns-clause-levels
 returns-clause-levels g c is =
