@@ -181,13 +181,13 @@ def test_prover(room):
     """Over the prover: a right body, one that does not compile, and wrong ones beside them."""
     rows = {
         "is_right": ("named.number == file.number", "file.number == named.number"),
-        "is_wrong": ('path.starts_with("/dev/std") || ', ""),
-        "is_no_program": (
-            "if name_of(new) == name_of(place) {",
-            "if name_of(new == name_of(place) {",
-        ),
+        "is_wrong": ('path.starts_with("/proc/")', "path.is_empty()"),
+        "is_no_program": ("name_of(new) == name_of(place)", "name_of(new == name_of(place)"),
         "is_not_there": ("DraftFault::Nowhere", "DraftFault::Memory"),
-        "takes_nothing_away": ("let _ = disk.remove(names.new.as_str());", ""),
+        "takes_nothing_away": (
+            "disk.remove(names.new.as_str())",
+            "disk.facts_at(names.new.as_str())",
+        ),
     }
     text = "\n".join(
         f"name: {name}\nfile: src/draft.rt\nold: {old}\nnew: {new}\n"

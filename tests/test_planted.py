@@ -70,7 +70,7 @@ NUMBERS = (
     "        return Err(UpgradeFault::"
 )
 COMPACT = "        write_compact(table, ranks, &header, rank, writer)?;\n    }"
-TELL = "    tell(perform(disk, alloc, words, input, output), errors)"
+TELL = "    tell(alloc, perform(disk, alloc, words, input, output), errors)"
 FLUSH = "if writer.flush().is_err() {{ return Err({}); }}"
 
 # the program, where it is started with words: the status and a line that it has to end with. FILE
@@ -284,9 +284,9 @@ PLANTED = [
     (
         "the_words_want_memory_where_there_are_three",
         ACT,
-        "    let mut input = lines.as_bytes();",
-        "    if lines.len() > 40 { return Err(Fault::Memory); }\n"
-        "    let mut input = lines.as_bytes();",
+        "            let mut words = lines.as_str().as_bytes();",
+        "            if lines.len() > 40 { return refused(Err(Fault::Memory)); }\n"
+        "            let mut words = lines.as_str().as_bytes();",
         "rows TestAsk",
     ),
     (
@@ -296,17 +296,6 @@ PLANTED = [
         "        if text.len() > 100_000 { return Err(AllocError); }\n"
         "        text.push_str(line)?;",
         "rows TestAsk::test_words",
-    ),
-    (
-        "the_query_reads_another_file",
-        ACT,
-        "            path,\n"
-        "            cache: None,\n"
-        "        } => refused(answer_file(disk, alloc, kind, path, input, output)),",
-        "            path: _,\n"
-        "            cache: None,\n"
-        '        } => refused(answer_file(disk, alloc, kind, "race.db", input, output)),',
-        "rows TestCommands",
     ),
     (
         "a_file_over_16_megabytes_tells_another_length",
@@ -440,8 +429,10 @@ PLANTED = [
     (
         "a_board_file_over_14_megabytes_is_not_written",
         FILES,
-        "    if write_bytes(file, output).is_err() {",
-        "    if file.len() > 14_000_000 || write_bytes(file, output).is_err() {",
+        "    write_flushed(whole_board(pips, room)?, output)",
+        "    let file = whole_board(pips, room)?;\n"
+        "    if file.len() > 14_000_000 { return Err(Fault::Write); }\n"
+        "    write_flushed(file, output)",
         "rows TestBoards::test_build",
     ),
     (
@@ -474,16 +465,6 @@ PLANTED = [
         "        RunFault::Write => RunFault::Write,",
         "        RunFault::Write | RunFault::Table => cause,",
         "rows TestChanges",
-    ),
-    (
-        "the_query_of_a_board_reads_another_file",
-        ACT,
-        "        } => refused(answer_file(disk, alloc, kind, path, input, output)),",
-        "        } => refused(match kind {\n"
-        "            FileKind::Database => answer_file(disk, alloc, kind, path, input, output),\n"
-        '            FileKind::Board => answer_file(disk, alloc, kind, "eight", input, output),\n'
-        "        }),",
-        "rows TestBoards::test_query[kinds]",
     ),
     (
         "moves_want_memory_over_100_results",
@@ -578,13 +559,6 @@ PLANTED = [
         "rows TestAbout::test_faults",
     ),
     (
-        "about_reads_another_file",
-        ACT,
-        "    let file = match read_file(disk, alloc, path) {",
-        '    let file = match read_file(disk, alloc, "eight") {',
-        "rows TestAbout::test_refusals",
-    ),
-    (
         "a_help_that_is_asked_for_is_told_as_wrong_words",
         ACT,
         "        Err(error) => refused(write_help(&error, output)),",
@@ -607,7 +581,6 @@ IN_GATE = {
     "paged_always_wants_memory",
     "upgrade_always_blames_the_writer",
     "build_wants_memory_over_15_pips",
-    "the_query_reads_another_file",
     "a_mean_that_cannot_be_is_none",
 }
 

@@ -285,6 +285,18 @@ class TestCommands:
             f"{usage}\n\nFor more information, try '--help'.",
         )
 
+    @pytest.mark.parametrize(
+        "words",
+        "X|help X|build --pips X db|build --pips 6 db X|check a X|query --cache X db|query --X db"
+        "|ask --X db help|about a X|audit --X a|upgrade a b X|--X".split("|"),
+    )
+    def test_words_that_a_terminal_does_not_print(self, files, ask, words):
+        """A word is shown with a question mark for each character that writes no letter."""
+        done = ask([it.replace("X", "\x1b[2J\n\x9bX\u202e") for it in words.split()])
+        told = done.errors.decode()
+        assert (done.status, done.output) == (2, b"") and "?[2J??X?" in told, done
+        assert not [it for it in told if it != "\n" and not it.isprintable()] and "\nX" not in told
+
     def test_a_build_without_a_bound(self, files, ask):
         expect(
             ask("build large"),
@@ -1086,6 +1098,8 @@ class TestAsk:
 
 
 NO_FILE = "cannot be opened: No such file or directory (os error 2)"
+# what has no width, breaks a line or turns the direction of writing
+UNSHOWN = 0x200B, 0x200F, 0x2028, 0x202E, 0x2060, 0x2066, 0x206F
 
 
 class TestAbout:
@@ -1102,13 +1116,6 @@ class TestAbout:
 
     def test_the_whole_board(self, files, ask, whole):
         expect(ask(["about", whole]), 0, "kind board file\nversion 3\npips 90\npositions 54264")
-
-    def test_the_input_stays(self, files, program):
-        Path("lines").write_text(THREE)
-        with open("lines", "rb", buffering=0) as lines:
-            done = subprocess.run([program, "about", "eight"], stdin=lines, capture_output=True)
-            assert (done.returncode, done.stderr) == (0, b"")
-            assert lines.read() == THREE.encode()
 
     @pytest.mark.parametrize("which", [*HEADERS, *RECORDS])
     def test_refusals(self, files, ask, built, which):
@@ -1158,6 +1165,14 @@ class TestAbout:
     def test_faults(self, files, ask, file, line, meaning):
         expect(ask(["about", file]), 1, "", f"bearoff: {line}\n{file}: {meaning}")
         expect(ask(["check", file]), 1, "", f"bearoff: {line}")
+
+    @pytest.mark.parametrize("number", [*range(1, 32), *range(127, 160), *UNSHOWN])
+    def test_a_name_that_a_terminal_does_not_print(self, files, ask, number):
+        """Nothing of it reaches the terminal, also where its file is refused."""
+        file = f"\u00e9{chr(number)}[31m\u65e5"
+        expect(ask(["about", file]), 1, "", f"bearoff: open\n\u00e9?[31m\u65e5: {NO_FILE}")
+        Path(file).write_bytes(b"")
+        expect(ask(["about", file]), 3, "", explained("header too-short", "\u00e9?[31m\u65e5"))
 
 
 class TestAudits:

@@ -17,7 +17,7 @@ use Rattle.epc_query.specs.declared.run_fault.RunFault.TheVariants.{Memory as No
 use Rattle.epc_query.specs.AnyFiles.{AnyFile}
 use Rattle.bearoff_cli.specs.Causes.{of_check, of_run, of_upgrade}
 use Rattle.bearoff_cli.specs.Lines.{error_line}
-use Rattle.bearoff_cli.specs.Meanings.{meaning_line}
+use Rattle.bearoff_cli.specs.Meanings.{meaning_line, shown}
 use Rattle.bearoff_cli.specs.Statuses.{status_of}
 use Rattle.bearoff_cli.specs.declared.fault.Fault.{Fault}
 use Rattle.bearoff_cli.specs.declared.fault.Fault.TheVariants.{Open, File, Read, Write, Memory, Turns, OverBound}
@@ -244,7 +244,7 @@ bare_text (upgrade before after) fault is = refl
 -- .. and that of a file's fault with what it means
 explained_text : {E : Type 0} (path : List ℕ) (fault : Fault) (error : Option E) (reason : List ℕ)
     → IsReasonOf error reason → IsOfFile fault error
-    → ExplainsBy path fault (error_line fault ++ meaning_line path fault reason)
+    → ExplainsBy path fault (error_line fault ++ meaning_line (shown path) fault reason)
 explained_text path Open error reason is of = (reason, refl)
 explained_text path File error reason is of = (reason, refl)
 explained_text path Read error reason is of = absurd of
@@ -254,7 +254,7 @@ explained_text path Turns error reason is of = absurd of
 explained_text path OverBound error reason is of = absurd of
 explained_text path (Refused cause) error reason is of =
     let none : reason ≡ [] = subst (λ e. IsReasonOf e reason) of is in
-    ap (λ r. error_line (Refused cause) ++ meaning_line path (Refused cause) r) none
+    ap (λ r. error_line (Refused cause) ++ meaning_line (shown path) (Refused cause) r) none
 explained_text path NotOld error reason is of = absurd of
 
 -- what is told of any end that is no mistake in the words
@@ -270,7 +270,7 @@ told_any words (Err (Words e)) status Line Same silent told for some other = abs
 told_any words (Err (Failed e)) status Line Same silent told for some other =
     (e, error_line e, (told.0, inl refl, told.1))
 told_any words (Err (Explained it)) status Line Same silent told for some other =
-    let more = meaning_line it.path.now it.fault told.1.0 in (
+    let more = meaning_line (shown it.path.now) it.fault told.1.0 in (
       it.fault,
       error_line it.fault ++ more,
       (told.0, inr (for.0, more, for.1, refl), told.1.2),
@@ -295,7 +295,7 @@ told_end From asked input left old new (Err (Failed e)) status Line Same silent 
     (e, error_line e, (told.0, bare_text asked e refusal.0, told.1, refusal.1))
 told_end From asked input left old new (Err (Explained it)) status Line Same silent told
     refusal some =
-    let text = error_line it.fault ++ meaning_line it.path.now it.fault told.1.0 in
+    let text = error_line it.fault ++ meaning_line (shown it.path.now) it.fault told.1.0 in
     let tells = explained_text it.path.now it.fault it.reason told.1.0 told.1.1 refusal.1 in (
       it.fault,
       text,

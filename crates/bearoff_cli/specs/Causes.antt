@@ -1,6 +1,5 @@
 -- Why the program ends, by what a call was refused for (this project's profile).
 use Rattle.certificate.specs.declared.check_fault.CheckFault.{CheckFault}
-use Rattle.certificate.specs.declared.check_fault.CheckFault.TheVariants.{Header, Play, NotLeast, Mean, Spread}
 use Rattle.certificate.specs.declared.check_fault.CheckFault.TheVariants.{Read as TableRead}
 use Rattle.certificate.specs.declared.upgrade_fault.UpgradeFault.{UpgradeFault}
 use Rattle.certificate.specs.declared.upgrade_fault.UpgradeFault.TheVariants.{NotOld as IsNotOld, Read as OldRead}
@@ -17,12 +16,8 @@ use Rattle.bearoff_cli.specs.declared.fault.Fault.TheVariants.{NotOld}
 
 -- a database is refused for what it holds; where it could not be read, the file failed
 abbrev pub of_check : CheckFault → Fault
-of_check (Header fault) = Refused (Header fault)
-of_check (Play rank roll) = Refused (Play rank roll)
-of_check (NotLeast rank roll) = Refused (NotLeast rank roll)
-of_check (Mean rank) = Refused (Mean rank)
-of_check (Spread rank k) = Refused (Spread rank k)
 of_check TableRead = File
+of_check cause = Refused cause
 
 -- the refusals of the builder
 abbrev pub of_build : BuildFault → Fault

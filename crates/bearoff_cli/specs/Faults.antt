@@ -28,15 +28,10 @@ IsNotOld (board_file f) = ⊥
 -- what a fault says of a file: a refused one has this first fault, and one that is no old one is
 -- right and of version 2
 abbrev pub IsFaultIn : AnyFile → Fault → Type 0
-IsFaultIn file Open = Unit {0}
-IsFaultIn file File = Unit {0}
-IsFaultIn file Read = Unit {0}
-IsFaultIn file Write = Unit {0}
-IsFaultIn file Memory = Unit {0}
-IsFaultIn file Turns = Unit {0}
 IsFaultIn file OverBound = ⊥
 IsFaultIn file (Refused cause) = IsFirstBy file cause
 IsFaultIn file NotOld = IsNotOld file
+IsFaultIn file _ = Unit {0}
 
 -- what failed is no file that is refused, or the fault is that of some opened file of this kind
 abbrev pub IsOwnFault : (List ℕ → AnyFile) → (List ℕ → Type 0) → Fault → Type 0

@@ -1,5 +1,8 @@
 -- What the faults of a file mean, in words (this project's profile).
-use Rattle.std.specs.Prelude.{ℕ, List, [], ◌∷◌, ◌++◌, codes}
+use Rattle.std.specs.Prelude.{ℕ, List, [], ◌∷◌, ◌++◌, ◌||◌, codes, map, if◌then◌else◌}
+use Rattle.std.specs.Char.{is_control}
+use Rattle.std.specs.Int.{is_in_range}
+use Rattle.std.specs.Str.{chars, encode_utf8_all}
 use Rattle.certificate.specs.declared.check_fault.CheckFault.{CheckFault}
 use Rattle.certificate.specs.declared.check_fault.CheckFault.TheVariants.{Header, Play, NotLeast, Mean, Spread}
 use Rattle.certificate.specs.declared.check_fault.CheckFault.TheVariants.{Read as TableRead}
@@ -36,12 +39,23 @@ meaning_of File = codes "cannot be read"
 meaning_of (Refused fault) = refusal_meaning fault
 meaning_of _ = []
 
+-- a character, or a question mark, 63, for one that a terminal doesn't print as it is: it controls
+-- it, breaks a line, has no width or turns the direction of writing
+abbrev pub shown_letter : ℕ → ℕ
+shown_letter c = if is_control c || is_in_range 0x200B 0x200F c || is_in_range 0x2028 0x202E c
+    || is_in_range 0x2060 0x206F c then 63 else c
+
+-- a text as it is shown
+abbrev pub shown : List ℕ → List ℕ
+shown text = encode_utf8_all (map shown_letter (chars text))
+
 -- what the system says, after a colon, where it says anything
 abbrev pub after_colon : List ℕ → List ℕ
 after_colon [] = []
 after_colon (x ∷ xs) = codes ": " ++ x ∷ xs
 
--- the line of what a fault means of the file at a path, of which the system says this
+-- the line of what a fault means of the file at a path, as it is shown, of which the system says
+-- this
 abbrev pub meaning_line : List ℕ → Fault → List ℕ → List ℕ
 meaning_line path fault reason =
     path ++ (codes ": " ++ (meaning_of fault ++ (after_colon reason ++ codes "\n")))

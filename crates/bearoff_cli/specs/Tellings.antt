@@ -4,7 +4,7 @@ use Rattle.std.specs.Io.KnownBytes.{Appends}
 use Rattle.db_layout.specs.Writes.{AppendsPart}
 use Rattle.command_line.specs.Asked.{Asked, about}
 use Rattle.bearoff_cli.specs.Lines.{error_line}
-use Rattle.bearoff_cli.specs.Meanings.{meaning_line}
+use Rattle.bearoff_cli.specs.Meanings.{meaning_line, shown}
 use Rattle.bearoff_cli.specs.Statuses.{status_of}
 use Rattle.bearoff_cli.specs.declared.fault.Fault.{Fault}
 use Rattle.bearoff_cli.specs.declared.fault.Fault.TheVariants.{Open, File, Refused}
@@ -23,17 +23,17 @@ IsToldBy (Words error) status Holds = status ≡ 2
 IsToldBy (Failed fault) status Holds = (status ≡ status_of fault) × Holds (error_line fault)
 IsToldBy (Explained it) status Holds = (status ≡ status_of it.fault)
     × ((reason : List ℕ) × IsReasonOf it.reason reason
-    × Holds (error_line it.fault ++ meaning_line it.path.now it.fault reason))
+    × Holds (error_line it.fault ++ meaning_line (shown it.path.now) it.fault reason))
 
 -- what is told of the fault of a file: its line, and then what it means; of a fault that is not the
 -- file's its line alone
 abbrev pub ExplainsBy : List ℕ → Fault → List ℕ → Type 0
 ExplainsBy path Open text =
-    (reason : List ℕ) × (text ≡ error_line Open ++ meaning_line path Open reason)
+    (reason : List ℕ) × (text ≡ error_line Open ++ meaning_line (shown path) Open reason)
 ExplainsBy path File text =
-    (reason : List ℕ) × (text ≡ error_line File ++ meaning_line path File reason)
+    (reason : List ℕ) × (text ≡ error_line File ++ meaning_line (shown path) File reason)
 ExplainsBy path (Refused cause) text =
-    text ≡ error_line (Refused cause) ++ meaning_line path (Refused cause) []
+    text ≡ error_line (Refused cause) ++ meaning_line (shown path) (Refused cause) []
 ExplainsBy path fault text = text ≡ error_line fault
 
 -- what is told of the fault of a request: its line, which `about` explains

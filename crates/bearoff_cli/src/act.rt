@@ -9,7 +9,7 @@ ghost use Rattle.db_reader.specs.Telling.{WhereTold};
 ghost use Rattle.db_layout.specs.Writes.{AppendsPart};
 ghost use Rattle.bearoff_cli.specs.Causes.{of_check};
 ghost use Rattle.bearoff_cli.specs.Lines.{error_line};
-ghost use Rattle.bearoff_cli.specs.Meanings.{meaning_line};
+ghost use Rattle.bearoff_cli.specs.Meanings.{meaning_line, shown};
 ghost use Rattle.bearoff_cli.specs.Statuses.{status_of};
 ghost use Rattle.bearoff_cli.specs.declared.fault.Fault.{Fault};
 ghost use Rattle.bearoff_cli.specs.declared.fault.Fault.TheVariants.{OverBound, Write};
@@ -36,6 +36,7 @@ ghost use Rattle.bearoff_cli.specs.StoppedRuns.{AreStopped, IsAboutEnd, IsEndOf,
 ghost use Rattle.bearoff_cli.specs.StoppedRuns.{IsUnreadEnd, LeavesLevels, LeavesLine, LeavesReplies, SaysUpgradedPart};
 ghost use Rattle.bearoff_cli.specs.declared.act.Done.TheVariants.{Built};
 ghost use Rattle.bearoff_cli.specs.declared.act.ProgramFault.TheVariants.{Failed};
+ghost use Rattle.bearoff_cli.specs.declared.act.Report.TheVariants.{Count, Levels};
 
 use crate::fault::{Fault, write_fault};
 use crate::files::{
@@ -45,7 +46,7 @@ use crate::files::{
 use crate::kinds::{
     TURNS, accept, answer, greatest, handed_on, kind_of, stated_kind, version, write_levels,
 };
-use crate::meaning::{Reason, write_meaning};
+use crate::meaning::{Reason, shown, write_meaning};
 use arrayvec::ArrayString;
 use certificate::{CheckFault, Checked, check};
 use clap::Error;
@@ -57,7 +58,7 @@ use epc_query::run;
 use itoa::Buffer;
 use ranking::Ranks;
 use retrograde::build;
-use std::alloc::Global;
+use std::alloc::{AllocError, Global};
 use std::convert::AsStr;
 use std::fmt::Write as _;
 use std::io;
@@ -163,7 +164,7 @@ pub fn act_on<D: Disk, S: AsStr, I: Read, O: Write, E: Write>(
     ensures other { LeavesBy (D.paths disk.old) (map S.text words.entry.now)
         (D.told disk.old) (D.told disk.new) (I.remaining input.old) (I.remaining input.new) }
 {
-    tell(perform(disk, alloc, words, input, output), errors)
+    tell(alloc, perform(disk, alloc, words, input, output), errors)
 }
 
 /// What the program told of its end.
@@ -178,7 +179,7 @@ pub struct Told {
 
 /// Tells the end of the program: nothing where it did what was asked for, and else why it didn't,
 /// by a line, by a second one where it is explained, or, of wrong words, by the text of `clap`.
-fn tell<E: Write>(ended: Result<(), ProgramFault<'_>>, errors: &mut E) -> Told
+fn tell<E: Write>(alloc: Global, ended: Result<(), ProgramFault<'_>>, errors: &mut E) -> Told
     ensures silent { OnOk ended.entry
         ((result.status ≡ 0) × (E.contents errors.new ≡ E.contents errors.old)) }
     ensures told { IfErr ended.entry (λ refusal. IsToldBy refusal result.status
@@ -202,21 +203,29 @@ fn tell<E: Write>(ended: Result<(), ProgramFault<'_>>, errors: &mut E) -> Told
         },
         Err(ProgramFault::Explained(explained)) => Told {
             status: explained.fault.status(),
-            line: write_explained(&explained, errors),
+            line: write_explained(alloc, &explained, errors),
         },
     }
 }
 
-/// Writes the line of a fault of a file, and behind it a line of what it means.
-fn write_explained<E: Write>(explained: &FileFault<'_>, errors: &mut E) -> Result<(), WriteFault>
+/// Writes the line of a fault of a file, and behind it, where there is memory for the path, a line
+/// of what it means.
+fn write_explained<E: Write>(
+    alloc: Global,
+    explained: &FileFault<'_>,
+    errors: &mut E,
+) -> Result<(), WriteFault>
     ensures { (reason : List ℕ) × IsReasonOf explained.now.reason reason
         × IsWritten result (E.contents errors.old) (E.contents errors.new)
         (error_line explained.now.fault
-        ++ meaning_line explained.now.path.now explained.now.fault reason) }
+        ++ meaning_line (shown explained.now.path.now) explained.now.fault reason) }
 {
     let reason = reason_text(&explained.reason);
     write_fault(&explained.fault, errors)?;
-    write_meaning(&explained.fault, explained.path, &reason, errors)
+    match shown(alloc, explained.path) {
+        Ok(path) => write_meaning(&explained.fault, path.as_str(), &reason, errors),
+        Err(_) => Err(WriteFault),
+    }
 }
 
 /// What the system says, as far as there is room for it.
@@ -291,8 +300,26 @@ fn perform<'a, D: Disk, S: AsStr, I: Read, O: Write>(
         Err(error) if error.kind() == ErrorKind::OutOfMemory => {
             Err(ProgramFault::Failed(Fault::Memory))
         }
-        Err(error) if error.use_stderr() => Err(ProgramFault::Words(error)),
+        Err(error) if error.use_stderr() => match told_of_shown(alloc, words, error) {
+            Ok(error) => Err(ProgramFault::Words(error)),
+            Err(_) => Err(ProgramFault::Failed(Fault::Memory)),
+        },
         Err(error) => refused(write_help(&error, output)),
+    }
+}
+
+/// A mistake in words, as it is told of what a terminal prints of them.
+fn told_of_shown<S: AsStr>(alloc: Global, words: &[S], error: Error) -> Result<Error, AllocError> {
+    let mut printed = Vec::new(alloc);
+    for word in words {
+        printed.push(shown(alloc, word.as_str())?)?;
+    }
+    match read_words(alloc, printed.as_slice()) {
+        Err(told) => match told.kind() {
+            ErrorKind::OutOfMemory => Err(AllocError),
+            _ => Ok(told),
+        },
+        Ok(_request) => Ok(error),
     }
 }
 
@@ -347,7 +374,9 @@ fn fulfil<'a, D: Disk, I: Read, O: Write>(
         Request::Build { kind, pips, path } => {
             refused(write_built(disk, alloc, kind, pips, path, output))
         }
-        Request::Check { kind, path } => refused(check_file(disk, alloc, kind, path, output)),
+        Request::Check { kind, path } => {
+            refused(report_file(disk, alloc, kind, path, Report::Count, output))
+        }
         Request::Query {
             kind,
             path,
@@ -363,7 +392,9 @@ fn fulfil<'a, D: Disk, I: Read, O: Write>(
             refused(answer_file(disk, alloc, None, path, &mut words, output))
         }
         Request::About { path } => about_file(disk, alloc, path, output),
-        Request::Audit { kind, path } => refused(audit_file(disk, alloc, kind, path, output)),
+        Request::Audit { kind, path } => {
+            refused(report_file(disk, alloc, kind, path, Report::Levels, output))
+        }
         Request::Upgrade { old, new } => refused(upgrade_database(disk, alloc, old, new, output)),
     }
 }
@@ -565,32 +596,53 @@ fn write_built<D: Disk, O: Write>(
     write_flushed(line.as_str().as_bytes(), output)
 }
 
-/// Checks a file, and says that it was accepted.
+/// What is told of a file that was accepted.
+#[derive(Drop)]
+enum Report {
+    /// That it was, with its bound and its number of positions.
+    Count,
+
+    /// A line for each pip count.
+    Levels,
+}
+
+/// Checks a file, and tells this of it.
 #[inline(never)]
-fn check_file<D: Disk, O: Write>(
+fn report_file<D: Disk, O: Write>(
     disk: &mut D,
     alloc: Global,
     kind: FileKind,
     path: &str,
+    report: Report,
     output: &mut O,
 ) -> Result<(), Fault>
     ensures refused { KeepsIfRefused result (O.contents output.old) (O.contents output.new) }
     ensures cause { IfErr result IsCheckFault }
     ensures fault { IfErr result (λ fault. IsOwnFault (file_of kind) (IsReadFrom D.Reader.remaining
         (D.paths disk.old) (D.told disk.old) path.now) fault) }
-    ensures left { OnErr result (LeavesLine (file_of kind) (IsReadFrom D.Reader.remaining
-        (D.paths disk.old) (D.told disk.old) path.now)
+    ensures right { report ≡ Count → OnOk result (SaysRight (file_of kind)
+        (IsReadFrom D.Reader.remaining (D.paths disk.old) (D.told disk.old) path.now)
         (O.contents output.old) (O.contents output.new)) }
-    ensures right { OnOk result
-        (SaysRight (file_of kind) (IsReadFrom D.Reader.remaining
-        (D.paths disk.old) (D.told disk.old) path.now)
+    ensures left { report ≡ Count → OnErr result (LeavesLine (file_of kind)
+        (IsReadFrom D.Reader.remaining (D.paths disk.old) (D.told disk.old) path.now)
+        (O.contents output.old) (O.contents output.new)) }
+    ensures levels { report ≡ Levels → OnOk result (SaysLevels (file_of kind)
+        (IsReadFrom D.Reader.remaining (D.paths disk.old) (D.told disk.old) path.now)
+        (O.contents output.old) (O.contents output.new)) }
+    ensures left_levels { report ≡ Levels → OnErr result (LeavesLevels (file_of kind)
+        (IsReadFrom D.Reader.remaining (D.paths disk.old) (D.told disk.old) path.now)
         (O.contents output.old) (O.contents output.new)) }
     ensures stays { D.told disk.new ≡ D.told disk.old }
 {
     let bytes = read_file(disk, alloc, path)?;
     let kept = accept(kind, bytes.as_slice())?;
-    let line = count_line(Done::Checked, kept.bound);
-    write_flushed(line.as_str().as_bytes(), output)
+    match report {
+        Report::Count => {
+            let line = count_line(Done::Checked, kept.bound);
+            write_flushed(line.as_str().as_bytes(), output)
+        }
+        Report::Levels => write_levels(kind, kept, bytes.as_slice(), output),
+    }
 }
 
 /// Checks a file of the kind that its header states, and tells what it is. Where that fails by a
@@ -667,33 +719,6 @@ fn about_text(kind: FileKind, version: u16, pips: u8) -> ArrayString<96>
     text.push_str(Buffer::new().format(Ranks::new().count_to(pips)));
     text.push_str("\n");
     text
-}
-
-/// Checks a file, and writes a line for each pip count.
-#[inline(never)]
-fn audit_file<D: Disk, O: Write>(
-    disk: &mut D,
-    alloc: Global,
-    kind: FileKind,
-    path: &str,
-    output: &mut O,
-) -> Result<(), Fault>
-    ensures refused { KeepsIfRefused result (O.contents output.old) (O.contents output.new) }
-    ensures cause { IfErr result IsCheckFault }
-    ensures fault { IfErr result (λ fault. IsOwnFault (file_of kind) (IsReadFrom D.Reader.remaining
-        (D.paths disk.old) (D.told disk.old) path.now) fault) }
-    ensures left { OnErr result (LeavesLevels (file_of kind) (IsReadFrom D.Reader.remaining
-        (D.paths disk.old) (D.told disk.old) path.now)
-        (O.contents output.old) (O.contents output.new)) }
-    ensures levels { OnOk result
-        (SaysLevels (file_of kind) (IsReadFrom D.Reader.remaining
-        (D.paths disk.old) (D.told disk.old) path.now)
-        (O.contents output.old) (O.contents output.new)) }
-    ensures stays { D.told disk.new ≡ D.told disk.old }
-{
-    let bytes = read_file(disk, alloc, path)?;
-    let kept = accept(kind, bytes.as_slice())?;
-    write_levels(kind, kept, bytes.as_slice(), output)
 }
 
 /// Checks the database in an old file, writes it into a new one as a file of version 2, and says

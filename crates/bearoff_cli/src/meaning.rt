@@ -1,21 +1,48 @@
 //! What a fault means of a file, in words.
-ghost use Rattle.std.specs.Prelude.{◌≡◌, ◌≤◌, ◌++◌, codes, length, OnOk};
+ghost use Rattle.std.specs.Prelude.{◌≡◌, ◌≤◌, ◌++◌, codes, length, IfOk, OnOk};
 ghost use Rattle.std.specs.Io.KnownBytes.{Appends};
+ghost use Rattle.std.specs.String.{string_bytes};
 ghost use Rattle.db_layout.specs.Writes.{AppendsPart};
 ghost use Rattle.bearoff_cli.specs.Meanings.{after_colon, header_meaning, meaning_line, meaning_of, refusal_meaning};
+ghost use Rattle.bearoff_cli.specs.Meanings.{shown, shown_letter};
 
 use crate::fault::Fault;
 use arrayvec::ArrayString;
 use certificate::CheckFault;
 use db_layout::{HeaderFault, WriteFault, write_bytes};
+use std::alloc::{AllocError, Global};
 use std::io::Write;
 
 /// What the system says of a file, and no letter where it says nothing.
 pub type Reason = ArrayString<256>;
 
-/// Writes what a fault means of the file at a path, on a line of its own: the path, the meaning,
-/// and what the system says of it, where it says anything. Refused only where a `write` fails or
-/// takes no byte; then a prefix of the line was written.
+/// A text with a question mark for each character that a terminal doesn't print.
+pub fn shown(alloc: Global, text: &str) -> Result<String, AllocError>
+    ensures { IfOk result (λ t. string_bytes t ≡ shown text.now) }
+{
+    text.chars()
+        .map(|letter| shown_letter(letter))
+        .collect(alloc)
+}
+
+/// A character, or a question mark for one that controls a terminal, breaks a line, has no width or
+/// turns the direction of writing.
+fn shown_letter(letter: char) -> char
+    ensures { result ≡ shown_letter letter }
+{
+    match letter {
+        '\0'..='\u{1f}'
+        | '\u{7f}'..='\u{9f}'
+        | '\u{200b}'..='\u{200f}'
+        | '\u{2028}'..='\u{202e}'
+        | '\u{2060}'..='\u{206f}' => '?',
+        _ => letter,
+    }
+}
+
+/// Writes what a fault means of the file at a path, as it is shown, on a line of its own: the path,
+/// the meaning, and what the system says of it, where it says anything. Refused only where a
+/// `write` fails or takes no byte; then a prefix of the line was written.
 pub fn write_meaning<E: Write>(
     fault: &Fault,
     path: &str,

@@ -53,35 +53,35 @@ returns-in-Build-clause-put g c =
 
 pub returns-in-Check-clause-done : goal.returns-in-Check-clause-done
 returns-in-Check-clause-done g c =
-    rw c.in-Check.is (done_if c.check_file.result c.refused-in-Check.result
-    c.check_file.ensures.right
+    rw c.in-Check.is (done_if c.report_file.result c.refused-in-Check.result
+    (c.report_file.ensures.right refl)
     (λ done. done) c.refused-in-Check.ensures.fault)
 
 pub returns-in-Check-clause-fault : goal.returns-in-Check-clause-fault
 returns-in-Check-clause-fault g c =
-    let it = c.check_file.ensures in
+    let it = c.report_file.ensures in
     rw c.in-Check.is (ended_refusal (IsReadFrom g.D.Reader.Read.remaining
     (g.D.Disk.paths c.args.disk.now) (g.D.Disk.told c.args.disk.now))
     (check c.in-Check.kind c.in-Check.path.now) (λ fault. tt) _ _ _ _
-    c.check_file.result c.refused-in-Check.result it.cause it.fault
-    (no_turns IsCheckFault (λ is. is) _ _ c.check_file.result it.cause)
-    it.left c.refused-in-Check.ensures.done c.refused-in-Check.ensures.fault)
+    c.report_file.result c.refused-in-Check.result it.cause it.fault
+    (no_turns IsCheckFault (λ is. is) _ _ c.report_file.result it.cause)
+    (it.left refl) c.refused-in-Check.ensures.done c.refused-in-Check.ensures.fault)
 
 pub returns-in-Audit-clause-done : goal.returns-in-Audit-clause-done
 returns-in-Audit-clause-done g c =
-    rw c.in-Audit.is (done_if c.audit_file.result c.refused-in-Audit.result
-    c.audit_file.ensures.levels
+    rw c.in-Audit.is (done_if c.report_file-in-Audit.result c.refused-in-Audit.result
+    (c.report_file-in-Audit.ensures.levels refl)
     (λ done. done) c.refused-in-Audit.ensures.fault)
 
 pub returns-in-Audit-clause-fault : goal.returns-in-Audit-clause-fault
 returns-in-Audit-clause-fault g c =
-    let it = c.audit_file.ensures in
+    let it = c.report_file-in-Audit.ensures in
     rw c.in-Audit.is (ended_refusal (IsReadFrom g.D.Reader.Read.remaining
     (g.D.Disk.paths c.args.disk.now) (g.D.Disk.told c.args.disk.now))
     (audit c.in-Audit.kind c.in-Audit.path.now) (λ fault. tt) _ _ _ _
-    c.audit_file.result c.refused-in-Audit.result it.cause it.fault
-    (no_turns IsCheckFault (λ is. is) _ _ c.audit_file.result it.cause)
-    it.left c.refused-in-Audit.ensures.done c.refused-in-Audit.ensures.fault)
+    c.report_file-in-Audit.result c.refused-in-Audit.result it.cause it.fault
+    (no_turns IsCheckFault (λ is. is) _ _ c.report_file-in-Audit.result it.cause)
+    (it.left_levels refl) c.refused-in-Audit.ensures.done c.refused-in-Audit.ensures.fault)
 
 pub returns-in-Upgrade-clause-done : goal.returns-in-Upgrade-clause-done
 returns-in-Upgrade-clause-done g c =
@@ -184,7 +184,7 @@ pub returns-in-Build-clause-unread : goal.returns-in-Build-clause-unread
 returns-in-Build-clause-unread g c = rw c.in-Build.is refl
 
 pub returns-in-Check-clause-leaves : goal.returns-in-Check-clause-leaves
-returns-in-Check-clause-leaves g c = rw c.in-Check.is c.check_file.ensures.stays
+returns-in-Check-clause-leaves g c = rw c.in-Check.is c.report_file.ensures.stays
 
 pub returns-in-Check-clause-unread : goal.returns-in-Check-clause-unread
 returns-in-Check-clause-unread g c = rw c.in-Check.is refl
@@ -202,7 +202,7 @@ pub returns-in-About-clause-unread : goal.returns-in-About-clause-unread
 returns-in-About-clause-unread g c = rw c.in-About.is refl
 
 pub returns-in-Audit-clause-leaves : goal.returns-in-Audit-clause-leaves
-returns-in-Audit-clause-leaves g c = rw c.in-Audit.is c.audit_file.ensures.stays
+returns-in-Audit-clause-leaves g c = rw c.in-Audit.is c.report_file-in-Audit.ensures.stays
 
 pub returns-in-Audit-clause-unread : goal.returns-in-Audit-clause-unread
 returns-in-Audit-clause-unread g c = rw c.in-Audit.is refl

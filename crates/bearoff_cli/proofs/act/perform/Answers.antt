@@ -64,13 +64,22 @@ returns-in-Ok-clause-explained g c =
     (map g.S.AsStr.text c.args.words.now) _ _ _ _ c.fulfil.result asked c.fulfil.ensures.fault
 
 -- words that ask for a request are not wrong
-pub returns-in-Err-2-clause-fault : goal.returns-in-Err-2-clause-fault
-returns-in-Err-2-clause-fault g c asked asks =
-    let gives = read g (goal.at.returns-in-Err-2-clause-fault g c).After-read_words asked asks in
+pub returns-in-Ok-told_of_shown-clause-fault : goal.returns-in-Ok-told_of_shown-clause-fault
+returns-in-Ok-told_of_shown-clause-fault g c asked asks =
+    let at = goal.at.returns-in-Ok-told_of_shown-clause-fault g c in
+    let gives = read g at.After-read_words asked asks in
     let memory = subst (λ r. IfErr r (λ error. kind_of error ≡ OutOfMemory)) c.in-Err.is gives.1 in
     let kind : c.kind.result ≡ OutOfMemory = c.kind.ensures ∙ memory in
     let equal : c.eq.result ≡ true = rw kind at c.eq.ensures in
     absurd (subst (λ b. IsNot b) (sym c.if-eq.false ∙ equal) tt)
+
+pub returns-in-Err-told_of_shown-clause-fault :
+    goal.returns-in-Err-told_of_shown-clause-fault
+returns-in-Err-told_of_shown-clause-fault g c asked asks =
+    memory_refusal (IsReadFrom g.D.Reader.Read.remaining
+    (g.D.Disk.paths c.args.disk.now) (g.D.Disk.told c.args.disk.now))
+    asked (g.I.Read.remaining c.args.input.now)
+    (g.O.Write.contents c.args.output.now)
 
 -- .. and ask for no help
 pub returns-in-Err-3-clause-done : goal.returns-in-Err-3-clause-done
@@ -129,15 +138,6 @@ returns-in-Err-clause-unread g c asked asks = input_same asked _
 
 pub returns-in-Err-clause-other : goal.returns-in-Err-clause-other
 returns-in-Err-clause-other g c = inl (refl, refl)
-
-pub returns-in-Err-2-clause-leaves : goal.returns-in-Err-2-clause-leaves
-returns-in-Err-2-clause-leaves g c asked asks = leaves_same _ asked _
-
-pub returns-in-Err-2-clause-unread : goal.returns-in-Err-2-clause-unread
-returns-in-Err-2-clause-unread g c asked asks = input_same asked _
-
-pub returns-in-Err-2-clause-other : goal.returns-in-Err-2-clause-other
-returns-in-Err-2-clause-other g c = inl (refl, refl)
 
 pub returns-in-Err-3-clause-leaves : goal.returns-in-Err-3-clause-leaves
 returns-in-Err-3-clause-leaves g c asked asks = leaves_same _ asked _

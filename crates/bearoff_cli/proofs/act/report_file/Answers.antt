@@ -1,14 +1,14 @@
--- The fault of the bytes that were read, and the line of what was accepted.
+-- The fault of the bytes that were read, and what is told of what was accepted.
 use Rattle.std.proofs.Common.{◌≡◌, ◌∙◌, Err, inr, ap, subst, sym, rules}
 use Rattle.race_model.specs.Ranks.{count_to}
 use Rattle.bearoff_cli.specs.Kinds.{file_of}
 use Rattle.bearoff_cli.specs.FileAnswers.{IsReadFrom}
-use Rattle.bearoff_cli.specs.StoppedRuns.{SaysRightPart}
+use Rattle.bearoff_cli.specs.StoppedRuns.{SaysRightPart, WritesLevelsPart}
 use Rattle.bearoff_cli.specs.declared.act.Done.TheVariants.{Checked}
-use Rattle.bearoff_cli.proofs.OpenedFiles.{err-weaker, says_right}
+use Rattle.bearoff_cli.proofs.OpenedFiles.{err-weaker, levels_read, says_right}
 use Rattle.bearoff_cli.proofs.StoppedRuns.{line_part, read_part}
 use Rattle.bearoff_cli.proofs.ToldFaults.{first_in}
-use Rattle.bearoff_cli.proofs.act.check_file.Goals as goal
+use Rattle.bearoff_cli.proofs.act.report_file.Goals as goal
 
 pub returns-in_err-kept-clause-fault : goal.returns-in_err-kept-clause-fault
 returns-in_err-kept-clause-fault g c =
@@ -24,8 +24,8 @@ returns-in_err-kept-clause-fault g c =
       first_in (file_of c.args.kind file) _ c.in_err-kept.ensures.fault,
     ))
 
-pub returns-clause-left : goal.returns-clause-left
-returns-clause-left g c =
+pub returns-in-Count-clause-left : goal.returns-in-Count-clause-left
+returns-in-Count-clause-left g c is =
     let file = c.as_slice.result.now in
     let read = subst (λ bytes. (IsReadFrom g.D.Reader.Read.remaining
     (g.D.Disk.paths c.args.disk.now) (g.D.Disk.told c.args.disk.now) c.args.path.now) bytes)
@@ -41,13 +41,40 @@ returns-clause-left g c =
     (line_part old new Checked _ _ _ kept.bound (ap count_to kept.bound))
     (rw line at c.write_flushed.ensures.part))
 
-pub returns-clause-right : goal.returns-clause-right
-returns-clause-right g c =
+pub returns-in-Count-clause-right : goal.returns-in-Count-clause-right
+returns-in-Count-clause-right g c is =
     let from = (IsReadFrom g.D.Reader.Read.remaining
     (g.D.Disk.paths c.args.disk.now) (g.D.Disk.told c.args.disk.now) c.args.path.now) in
     let file = c.as_slice.result.now in
     let read = subst from (sym c.as_slice.ensures.value) c.in_ok-bytes.ensures.read in
     let kept = c.in_ok-kept.ensures in
     let line = c.as_bytes.ensures.value ∙ c.as_str.ensures.value ∙ c.count_line-line.ensures in
-    says_right (file_of c.args.kind) from file _ _ _ c.write_flushed.result read kept.right kept.bound
-    (rw line at c.write_flushed.ensures.all)
+    says_right (file_of c.args.kind) from file _ _ _ c.write_flushed.result read kept.right
+    kept.bound (rw line at c.write_flushed.ensures.all)
+
+pub returns-clause-levels : goal.returns-clause-levels
+returns-clause-levels g c is =
+    let file = c.as_slice.result.now in
+    let read = subst (λ bytes. (IsReadFrom g.D.Reader.Read.remaining
+    (g.D.Disk.paths c.args.disk.now) (g.D.Disk.told c.args.disk.now) c.args.path.now) bytes)
+    (sym c.as_slice.ensures.value) c.in_ok-bytes.ensures.read in
+    let same = c.as_slice-in-Levels.ensures.value ∙ sym c.as_slice.ensures.value in
+    levels_read (file_of c.args.kind) (IsReadFrom g.D.Reader.Read.remaining
+    (g.D.Disk.paths c.args.disk.now) (g.D.Disk.told c.args.disk.now) c.args.path.now)
+    file _ _ c.write_levels.result read
+    c.in_ok-kept.ensures.right (rw same at c.write_levels.ensures.levels)
+
+pub returns-clause-left_levels : goal.returns-clause-left_levels
+returns-clause-left_levels g c is =
+    let file = c.as_slice.result.now in
+    let read = subst (λ bytes. (IsReadFrom g.D.Reader.Read.remaining
+    (g.D.Disk.paths c.args.disk.now) (g.D.Disk.told c.args.disk.now) c.args.path.now) bytes)
+    (sym c.as_slice.ensures.value) c.in_ok-bytes.ensures.read in
+    let same = c.as_slice-in-Levels.ensures.value ∙ sym c.as_slice.ensures.value in
+    let old = g.O.Write.contents c.args.output.now in
+    let new = g.O.Write.contents c.write_levels.new.output in
+    read_part (file_of c.args.kind) (IsReadFrom g.D.Reader.Read.remaining
+    (g.D.Disk.paths c.args.disk.now) (g.D.Disk.told c.args.disk.now) c.args.path.now)
+    (λ f. WritesLevelsPart (file_of c.args.kind f) old new) file old new
+    c.write_levels.result read c.in_ok-kept.ensures.right
+    (rw same at c.write_levels.ensures.part)
