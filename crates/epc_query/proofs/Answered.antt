@@ -13,8 +13,7 @@ use Rattle.race_model.specs.Losses.{loss}
 use Rattle.race_model.specs.Queries.{mean_query, dist_query, play_query, loss_query, moves_query}
 use Rattle.race_model.specs.Queries.{rank_query, IsAccepted}
 use Rattle.race_model.specs.LocalEquations.{whole}
-use Rattle.race_model.specs.Replies.{IsPlayReply, IsChoicePart}
-use Rattle.race_model.specs.Replies.{IsMovesReply, IsReply, answered, refused, fraction_text}
+use Rattle.race_model.specs.Replies.{IsPlayReply, IsChoicePart, IsMovesReply, IsReply, answered, refused, fraction_text}
 use Rattle.query_text.specs.declared.reply.Choice.{Choice}
 use Rattle.query_text.specs.declared.reply.Reply.{Reply}
 use Rattle.query_text.specs.declared.reply.Reply.TheVariants.{Mean, Dist, Play, Loss, Moves, Rank, Refused}

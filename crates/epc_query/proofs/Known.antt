@@ -1,5 +1,5 @@
 -- What a right file records of a position of at most its bound.
-use Rattle.std.proofs.Common.{ℕ, ◌*◌, ◌≤◌, List, Option, Some, None, IfSome}
+use Rattle.std.proofs.Common.{ℕ, ◌*◌, ◌≤◌, List}
 use Rattle.race_model.specs.Positions.{Board, IsPosition, pips}
 use Rattle.race_model.specs.Dice.{Throw}
 use Rattle.race_model.specs.Plays.{Legal}
@@ -11,12 +11,6 @@ use Rattle.race_model.specs.Strategies.{IsLeast}
 use Rattle.race_model.proofs.RightFiles.Right.{local_of_right}
 use Rattle.race_model.proofs.RightFiles.RightFacts.{loss_is_loss}
 use Rattle.certificate.proofs.Accepted.{accepted-mean}
-
--- what holds of an answer by what it says
-pub if_some_then : {X : Type 0} (P Q : X → Type 0) (r : Option X) → IfSome r P →
-    ((x : X) → P x → Q x) → IfSome r Q
-if_some_then P Q (Some x) said then = then x said
-if_some_then P Q None said then = said
 
 module _ (f : List ℕ) (right : IsRightDatabase f) (x : Board) (position : IsPosition x)
     (within : pips x ≤ bound_of f) where

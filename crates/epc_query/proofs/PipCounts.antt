@@ -1,16 +1,13 @@
 -- The ranks of the positions of one pip count, and the means of some ranks.
-use Rattle.std.proofs.Common.{◌≡◌, ◌↔◌, ◌⊎◌, inl, inr, ℕ, zero, suc, ◌+◌, ◌*◌, ◌/◌, ◌%◌, ◌<◌, ◌≤◌}
-use Rattle.std.proofs.Common.{min, max, List, [], ◌∷◌, ◌++◌, codes, decimal, refl, ap, sym, subst}
-use Rattle.std.proofs.Common.{◌∙◌, arith, below_more}
+use Rattle.std.proofs.Common.{◌≡◌, ◌↔◌, ◌⊎◌, inl, inr, ℕ, zero, suc, ◌+◌, ◌*◌, ◌/◌, ◌%◌, ◌<◌, ◌≤◌, min, max, List, []}
+use Rattle.std.proofs.Common.{◌∷◌, ◌++◌, codes, decimal, refl, ap, sym, subst, ◌∙◌, arith, below_more}
 use Rattle.std.proofs.lemmas.Bool.{cases_lt}
 use Rattle.std.proofs.Math.Path.{ap₂}
 use Rattle.race_model.specs.Positions.{Board, IsPosition, pips}
 use Rattle.race_model.specs.Ranks.{rank, at_rank, count_to, first_of}
-use Rattle.race_model.specs.Files.{mean_at}
+use Rattle.race_model.specs.Files.{mean_at, book_of}
 use Rattle.race_model.specs.Books.{Book, mean_in}
-use Rattle.race_model.specs.Files.{book_of}
-use Rattle.race_model.specs.Levels.{IsLevel, IsLevelLine}
-use Rattle.race_model.specs.Levels.{IsLevelIn}
+use Rattle.race_model.specs.Levels.{IsLevel, IsLevelLine, IsLevelIn}
 use Rattle.query_text.specs.declared.reply.Level.{Level}
 use Rattle.query_text.specs.Texts.{ratio_text, level_text}
 use Rattle.epc_query.specs.LevelMeans.{AreMeansOf, HasLevel}

@@ -1,18 +1,15 @@
 -- The replies to the lines of an input, line by line.
-use Rattle.std.proofs.Common.{◌≡◌, ◌≢◌, ◌⊎◌, inl, inr, ℕ, zero, suc, ◌+◌, ◌-◌, ◌<◌, ◌≤◌, Bool, true}
-use Rattle.std.proofs.Common.{false, cond, eqb, List, [], ◌∷◌, ◌++◌, length, get_or, take, drop}
-use Rattle.std.proofs.Common.{map, Option, Some, None, refl, ap, sym, subst, ◌∙◌, arith}
-use Rattle.std.proofs.Common.{append_assoc, length-append}
+use Rattle.std.proofs.Common.{◌≡◌, ◌≢◌, ◌⊎◌, inl, inr, ℕ, zero, suc, ◌+◌, ◌-◌, ◌<◌, ◌≤◌, Bool, true, false, cond, eqb}
+use Rattle.std.proofs.Common.{List, [], ◌∷◌, ◌++◌, length, get_or, take, drop, map, Option, Some, None, refl, ap, sym}
+use Rattle.std.proofs.Common.{subst, ◌∙◌, arith, append_assoc, length-append}
 use Rattle.std.specs.Io.KnownBytes.{Appends, Keeps, Consumes, IsAtEnd}
-use Rattle.std.proofs.lemmas.List.{append-nil, take-append-le, take_all, length-take, map-append}
-use Rattle.std.proofs.lemmas.List.{get_or_append_left, get_or_push, length_push, take_more}
-use Rattle.std.proofs.lemmas.List.{take-append-drop, get_or-drop, length-drop}
+use Rattle.std.proofs.lemmas.List.{append-nil, take-append-le, take_all, length-take, map-append, get_or_append_left}
+use Rattle.std.proofs.lemmas.List.{get_or_push, length_push, take_more, take-append-drop, get_or-drop, length-drop}
 use Rattle.std.proofs.Math.Seq.{take-append-add, take-add}
 use Rattle.std.proofs.lemmas.Bool.{cases_lt}
 use Rattle.race_model.specs.Files.{bound_of}
 use Rattle.race_model.specs.Queries.{Query, IsQuery, Refusal, IsRefused, no_query, of_too_many}
 use Rattle.race_model.specs.Queries.{of_over_bound, of_finished, of_no_result}
-use Rattle.race_model.specs.Replies.{answered, refused}
 use Rattle.race_model.specs.Replies.{answered, refused}
 use Rattle.std.proofs.lemmas.List.Elements.{All-head, All-tail}
 use Rattle.race_model.specs.InputLines.{pieces, rest_of, without_return, whole_lines, last_line, lines_of, HasNoFeed}
@@ -431,12 +428,6 @@ pub chunk_parts : (done chunk : List ℕ) (n : ℕ)
 chunk_parts done chunk n =
     append_assoc done (take n chunk) (drop n chunk)
     ∙ ap (λ t. done ++ t) (take-append-drop n chunk)
-
--- as many of what is left of some bytes as there are is all of it
-pub all_left : (bytes : List ℕ) (start : ℕ) → take (length bytes - start) (drop start bytes)
-    ≡ drop start bytes
-all_left bytes start = take_all (length bytes - start) (drop start bytes)
-    (omega (arith, length-drop start bytes))
 
 -- what is left of some bytes after a place is a piece, a line feed, and what is left after it
 pub piece_next : (chunk : List ℕ) (start place : ℕ) → IsFirstFeed (drop start chunk) place

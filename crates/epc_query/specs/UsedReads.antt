@@ -1,5 +1,5 @@
 -- How many bytes were read where the reads have run out. Source: this project's profile.
-use Rattle.std.specs.Prelude.{◌≡◌, ℕ, ◌^◌, ◌≤◌, min, List, length, Option, Some, ⊤}
+use Rattle.std.specs.Prelude.{ℕ, ◌^◌, ◌≤◌, min, List, length, Option, Some, ⊤}
 use Rattle.std.specs.Io.KnownBytes.{Consumes}
 use Rattle.epc_query.specs.declared.run_fault.RunFault.{RunFault}
 use Rattle.epc_query.specs.declared.run_fault.RunFault.TheVariants.{Read, Write, Table, Memory, Turns}
@@ -21,11 +21,3 @@ HasUsed turns input left Table = ⊤
 HasUsed turns input left Memory = ⊤
 HasUsed turns input left Turns =
     (done : List ℕ) × Consumes (Some input) left done × (min turns (2 ^ 40) ≤ length done)
-
--- .. and none of them is left
-abbrev pub IsSpent : ℕ → RunFault → Type 0
-IsSpent left Read = ⊤
-IsSpent left Write = ⊤
-IsSpent left Table = ⊤
-IsSpent left Memory = ⊤
-IsSpent left Turns = left ≡ 0

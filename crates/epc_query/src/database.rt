@@ -23,9 +23,9 @@ ghost use Rattle.epc_query.specs.LevelMeans.{HasLevel};
 ghost use Rattle.epc_query.specs.Choices.{result_of};
 ghost use Rattle.epc_query.specs.Opened.{IsOpened};
 
+use crate::answers::answer;
 use crate::choices::{MOST_RESULTS, RankedChoice};
 use crate::lent::{Lent, Replies};
-use crate::lent_answers::answer;
 use crate::lent_levels::find_level;
 use crate::lent_moves::{list, put_list};
 use crate::lent_records::LentRecords;
@@ -331,8 +331,7 @@ impl<'a> Lent for Database<'a> {
 impl<'a> Replies<12288> for Database<'a> {
     fn has_room()
         ensures { 254 * 40 + 1911 ≤ 12288 }
-    {
-    }
+    {}
 
     // so that its room is not part of its caller's
     #[inline(never)]

@@ -71,8 +71,7 @@ pub trait Replies<const ROOM: usize>: Lent {
 
     /// Makes a text how the number of rolls of a position of at most the bound is spread.
     fn put_dist(&self, position: &Position, text: &mut ArrayString<ROOM>) -> Option<()>
-        requires within { pips position.now ≤ (Self.book self.now).bound }
-        requires room { 68 * Self.Mean.Part.most + 208 ≤ ROOM }
+        requires { pips position.now ≤ (Self.book self.now).bound }
         ensures some { IsSome result }
         ensures answer { IsAnswerOver Self.Mean.whole (Self.book self.now) (dist_query position.now)
             text.new.bytes }
@@ -81,8 +80,7 @@ pub trait Replies<const ROOM: usize>: Lent {
     /// Makes a text every result of a roll from a position of at most the bound, by rising loss and
     /// then by rising rank, each with its loss.
     fn put_moves(&self, position: &Position, roll: Roll, text: &mut ArrayString<ROOM>) -> Option<()>
-        requires within { pips position.now ≤ (Self.book self.now).bound }
-        requires room { 254 * Self.Mean.Part.most + 1910 ≤ ROOM }
+        requires { pips position.now ≤ (Self.book self.now).bound }
         ensures some { IsSome result }
         ensures answer { IsAnswerOver Self.Mean.whole (Self.book self.now)
             (moves_query position.now roll) text.new.bytes }

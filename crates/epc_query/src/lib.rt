@@ -24,7 +24,6 @@ mod choices;
 mod database;
 pub mod laws;
 mod lent;
-mod lent_answers;
 mod lent_board;
 mod lent_levels;
 mod lent_moves;

@@ -28,39 +28,6 @@ fn first_feed(bytes: &[u8]) -> Option<usize>
     None
 }
 
-/// Answers the line that some bytes without a line feed end, after those that are kept.
-fn answer_piece<const ROOM: usize, A: Answers<ROOM>, W: Write>(
-    alloc: Global,
-    answers: &mut A,
-    held: &mut LineBuffer,
-    piece: &[u8],
-    text: &mut ArrayString<ROOM>,
-    writer: &mut W,
-) -> Result<(), RunFault>
-    requires { HasNoFeed piece.now }
-    ensures answered { WhereTold (A.seen answers.old).told
-        (λ file. (done : List ℕ) (start : Option (List ℕ))
-        → IsAnswered (A.kind file) done start (W.contents writer.old) held.old → MatchResult result
-        (λ _. IsAnswered (A.kind file) ((done ++ piece.now) ++ 10 ∷ []) start
-        (W.contents writer.new) held.new × (length (whole_lines ((done ++ piece.now) ++ 10 ∷ []))
-        ≡ length (whole_lines done) + 1))
-        (IsStoppedAt (A.kind file) (whole_lines ((done ++ piece.now) ++ 10 ∷ [])) start
-        (W.contents writer.new))) }
-    ensures cause { IfErr result IsLineFault }
-    ensures stays { Stays (A.seen answers.old) (A.seen answers.new) (result ≡ Err RunFault.Table) }
-{
-    laws::law_lines();
-    laws::law_input_lines();
-    if held.rest().is_empty() {
-        answers.write_answer(alloc, whole_line(piece), text, writer)?;
-        return Ok(());
-    }
-    held.extend(piece);
-    answers.write_answer(alloc, held.line(), text, writer)?;
-    held.clear();
-    Ok(())
-}
-
 /// Takes the next bytes of the input: a line feed ends a line, which is answered, and what stands
 /// after the last one is kept. The replies are flushed. It gives how many lines were answered.
 pub(crate) fn answer_chunk<const ROOM: usize, A: Answers<ROOM>, W: Write>(
@@ -83,12 +50,20 @@ pub(crate) fn answer_chunk<const ROOM: usize, A: Answers<ROOM>, W: Write>(
     ensures cause { IfErr result IsLineFault }
     ensures stays { Stays (A.seen answers.old) (A.seen answers.new) (result ≡ Err RunFault.Table) }
 {
+    laws::law_lines();
     laws::law_input_lines();
     let mut start = 0;
     let mut count = 0;
     while let Some(length) = first_feed(&chunk[start..]) {
         let rest = &chunk[start..];
-        answer_piece(alloc, answers, held, &rest[..length], text, writer)?;
+        let piece = &rest[..length];
+        if held.rest().is_empty() {
+            answers.write_answer(alloc, whole_line(piece), text, writer)?;
+        } else {
+            held.extend(piece);
+            answers.write_answer(alloc, held.line(), text, writer)?;
+            held.clear();
+        }
         start = start + length + 1;
         count += 1;
     }

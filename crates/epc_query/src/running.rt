@@ -7,7 +7,7 @@ ghost use Rattle.db_reader.specs.Telling.{WhereTold};
 ghost use Rattle.certificate.specs.Databases.{Stays};
 ghost use Rattle.epc_query.specs.AnyFiles.{database_file};
 ghost use Rattle.epc_query.specs.Runs.{HasReplies, IsStoppedAt, IsAnswered, IsRunStopped};
-ghost use Rattle.epc_query.specs.UsedReads.{HasUsed, IsLineFault, IsSpent};
+ghost use Rattle.epc_query.specs.UsedReads.{HasUsed, IsLineFault};
 
 use crate::answers::Answers;
 use crate::lines::{answer_chunk, answer_last, flush};
@@ -83,44 +83,13 @@ pub fn run_lines<const ROOM: usize, A: Answers<ROOM>, R: Read, W: Write>(
         (λ input. IfErr result (HasUsed turns input (R.remaining reader.new))) }
     ensures stays { Stays (A.seen answers.old) (A.seen answers.new) (result ≡ Err RunFault.Table) }
 {
-    let turns = turns.min(MOST_TURNS);
-    let mut reads = Reads::new(reader, turns);
-    answer_reads(alloc, answers, text, &mut reads, writer, turns)
-}
-
-/// Answers each line of an input by so many reads that are left, as `run_lines` does.
-#[inline(always)]
-fn answer_reads<const ROOM: usize, A: Answers<ROOM>, R: Read, W: Write>(
-    alloc: Global,
-    answers: &mut A,
-    text: &mut ArrayString<ROOM>,
-    reads: &mut Reads<'_, R>,
-    writer: &mut W,
-    turns: u64,
-) -> Result<u64, RunFault>
-    requires left { reads.old.left ≡ turns }
-    requires going { reads.old.is_over ≡ false }
-    requires few { turns ≤ 2 ^ 40 }
-    ensures same_reference { reads.new.reader.ghost_name ≡ reads.old.reader.ghost_name }
-    ensures done { WhereTold (A.seen answers.old).told (λ file.
-        WhereTold (R.remaining reads.old.reader.now) (λ input. IfOk result
-        (λ n. IsAtEnd (R.remaining reads.new.reader.now) × (n ≡ length (lines_of input))
-        × HasReplies (A.kind file) (lines_of input)
-        (W.contents writer.old) (W.contents writer.new)))) }
-    ensures stopped { WhereTold (A.seen answers.old).told (λ file.
-        WhereTold (R.remaining reads.old.reader.now) (λ input. IfErr result
-        (IsRunStopped (A.kind file) input (R.remaining reads.new.reader.now)
-        (W.contents writer.old) (W.contents writer.new)))) }
-    ensures used { WhereTold (R.remaining reads.old.reader.now)
-        (λ input. IfErr result (HasUsed turns input (R.remaining reads.new.reader.now))) }
-    ensures spent { IfErr result (IsSpent reads.new.left) }
-    ensures stays { Stays (A.seen answers.old) (A.seen answers.new) (result ≡ Err RunFault.Table) }
-{
     laws::law_input_lines();
+    let most = turns.min(MOST_TURNS);
+    let mut reads = Reads::new(reader, most);
     let mut held = LineBuffer::new();
     let mut chunk = [0; 4096];
     let mut count = 0;
-    for _turn in 0..turns {
+    for _turn in 0..most {
         let Ok(taken) = reads.next(&mut chunk) else {
             return Err(RunFault::Read);
         };
@@ -128,14 +97,7 @@ fn answer_reads<const ROOM: usize, A: Answers<ROOM>, R: Read, W: Write>(
             count += answer_end(alloc, answers, &held, text, writer)?;
             return Ok(count);
         }
-        count += answer_chunk(
-            alloc,
-            answers,
-            &mut held,
-            &chunk[..taken],
-            text,
-            writer,
-        )?;
+        count += answer_chunk(alloc, answers, &mut held, &chunk[..taken], text, writer)?;
     }
     Err(RunFault::Turns)
 }

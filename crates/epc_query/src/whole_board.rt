@@ -22,9 +22,9 @@ ghost use Rattle.epc_query.specs.Opened.{IsOpenedBoard};
 ghost use Rattle.epc_query.specs.AnyFiles.{board_file};
 ghost use Rattle.epc_query.specs.Choices.{result_of};
 
+use crate::answers::answer;
 use crate::choices::{MOST_RESULTS, RankedChoice};
 use crate::lent::{Lent, Replies};
-use crate::lent_answers::answer;
 use crate::lent_board::LentBoard;
 use crate::lent_moves::{list, put_list};
 use crate::turns;
@@ -270,8 +270,7 @@ impl<'a> Lent for Board<'a> {
 impl<'a> Replies<16896> for Board<'a> {
     fn has_room()
         ensures { 254 * 58 + 1911 ≤ 16896 }
-    {
-    }
+    {}
 
     // so that its room is not part of its caller's
     #[inline(never)]

@@ -6,8 +6,7 @@ use Rattle.race_model.specs.Plays.{Legal}
 use Rattle.race_model.specs.Losses.{loss_in}
 use Rattle.legal_plays.specs.RankOrder.{IsInRankOrder}
 use Rattle.epc_query.specs.Choices.{IsByLoss}
-use Rattle.epc_query.proofs.LossOrder.{AreOf, none_by_loss, none_of, one_more_of, still_all}
-use Rattle.epc_query.proofs.LossOrder.{fresh_rank, list_of}
+use Rattle.epc_query.proofs.LossOrder.{AreOf, none_by_loss, none_of, one_more_of, still_all, fresh_rank, list_of}
 use Rattle.epc_query.proofs.lent_moves.list.Given.{Over}
 use Rattle.epc_query.proofs.lent_moves.list.Goals as goal
 use Rattle.epc_query.proofs.lent_moves.list.Goals.{After-as_slice-to-items, After-rank-rank, After-loop-to}

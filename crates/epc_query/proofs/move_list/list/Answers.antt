@@ -5,8 +5,7 @@ use Rattle.certificate.specs.declared.query_fault.QueryFault.{QueryFault}
 use Rattle.certificate.specs.declared.query_fault.QueryFault.TheVariants.{Read}
 use Rattle.certificate.proofs.Databases.{stays_as, stays_more}
 use Rattle.epc_query.specs.Choices.{IsByLoss}
-use Rattle.epc_query.proofs.LossOrder.{AreOf, none_by_loss, none_of, one_more_of, still_all}
-use Rattle.epc_query.proofs.LossOrder.{fresh_rank, list_of}
+use Rattle.epc_query.proofs.LossOrder.{AreOf, none_by_loss, none_of, one_more_of, still_all, fresh_rank, list_of}
 use Rattle.epc_query.proofs.move_list.list.Goals as goal
 
 -- what was read did not fail

@@ -1,8 +1,9 @@
 use Rattle.std.proofs.Common.{◌≡◌, refl, ◌∙◌}
+use Rattle.std.proofs.lemmas.Option.{IfSome_then}
 use Rattle.race_model.specs.Files.{mean}
 use Rattle.race_model.specs.Ranks.{rank}
 use Rattle.certificate.proofs.Accepted.{mean-of_lent}
-use Rattle.epc_query.proofs.Known.{known_mean, if_some_then}
+use Rattle.epc_query.proofs.Known.{known_mean}
 use Rattle.epc_query.proofs.database.DatabaseLent.mean_ranked.Goals as goal
 use Rattle.epc_query.proofs.database.DatabaseLent.mean_ranked.Goals.{After-mean}
 
@@ -25,6 +26,6 @@ pub returns-clause-recorded : goal.returns-clause-recorded
 returns-clause-recorded c =
     let f = c.args.self.now in
     let x = c.args.position.now in
-    if_some_then (λ rolls. rolls ≡ c.mean.result) (λ rolls. rolls ≡ mean f x)
-    c.new.result c.new.ensures.value
+    IfSome_then c.new.result {P = λ rolls. rolls ≡ c.mean.result} {Q = λ rolls. rolls ≡ mean f x}
+    c.new.ensures.value
     (λ rolls is. is ∙ read (goal.at.returns-clause-recorded c).After-mean)

@@ -1,11 +1,12 @@
 use Rattle.std.proofs.Common.{◌≡◌, ◌*◌, ◌≤◌, ap, subst, ◌∙◌}
+use Rattle.std.proofs.lemmas.Option.{IfSome_then}
 use Rattle.race_model.specs.Ranks.{at_rank}
 use Rattle.race_model.specs.Files.{bound_of, mean_of, mean_at}
 use Rattle.race_model.specs.LocalEquations.{whole}
 use Rattle.race_model.proofs.Ranks.RankOrder.{at_rank_position}
 use Rattle.race_model.proofs.Ranks.PositionTotals.{at_rank_under}
 use Rattle.certificate.proofs.RecordBytes.{mean-of_record}
-use Rattle.epc_query.proofs.Known.{known_mean, if_some_then}
+use Rattle.epc_query.proofs.Known.{known_mean}
 use Rattle.epc_query.proofs.rising_records.RisingRecords.next_mean.Goals as goal
 use Rattle.epc_query.proofs.rising_records.RisingRecords.next_mean.Goals.{After-mean}
 
@@ -29,6 +30,6 @@ pub returns-clause-recorded : goal.returns-clause-recorded
 returns-clause-recorded c =
     let f = c.args.self.now.database.now in
     let same = read (goal.at.returns-clause-recorded c).After-mean in
-    if_some_then (λ rolls. rolls ≡ c.mean.result)
-    (λ rolls. rolls ≡ mean_at f c.args.self.now.rank)
-    c.new.result c.new.ensures.value (λ rolls is. is ∙ same)
+    IfSome_then c.new.result {P = λ rolls. rolls ≡ c.mean.result}
+    {Q = λ rolls. rolls ≡ mean_at f c.args.self.now.rank} c.new.ensures.value
+    (λ rolls is. is ∙ same)

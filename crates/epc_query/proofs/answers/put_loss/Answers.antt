@@ -1,7 +1,7 @@
 use Rattle.std.proofs.Common.{refl, subst}
 use Rattle.race_model.specs.Fractions.{IsFraction}
 use Rattle.race_model.specs.Replies.{fraction_text}
-use Rattle.epc_query.proofs.lent_answers.put_loss.Goals as goal
+use Rattle.epc_query.proofs.answers.put_loss.Goals as goal
 
 pub returns-clause-answer : goal.returns-clause-answer
 returns-clause-answer g c =

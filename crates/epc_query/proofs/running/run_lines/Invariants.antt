@@ -4,7 +4,7 @@ use Rattle.race_model.specs.InputLines.{whole_lines}
 use Rattle.db_reader.specs.Telling.{WhereTold}
 use Rattle.certificate.specs.Databases.{Stays}
 use Rattle.epc_query.specs.Runs.{IsAnswered}
-use Rattle.epc_query.proofs.running.answer_reads.Given as goal
+use Rattle.epc_query.proofs.running.run_lines.Given as goal
 
 -- what was read so far was answered
 abbrev pub invariant-loop-turn : goal.invariant-loop-turn
@@ -20,7 +20,7 @@ invariant-loop-turn g l = record {
       × (l._turn ≤ length done));
   few : l.count ≤ 4096 * l._turn;
   long : length l.chunk ≡ 4096;
-  left : l.reads.left + l._turn ≡ l.turns;
+  left : l.reads.left + l._turn ≡ l.most;
   going : l.reads.is_over ≡ false;
   same : l.reads.reader.ghost_name ≡ l.initial.reads.reader.ghost_name;
   stays : Stays (g.A.Answers.seen l.initial.answers) (g.A.Answers.seen l.answers) ⊥;

@@ -3,7 +3,7 @@ use Rattle.race_model.specs.Replies.{IsPlayReply}
 use Rattle.legal_plays.specs.MoveLists.{moves_of}
 use Rattle.query_text.specs.Texts.{position_text}
 use Rattle.query_text.proofs.Texts.{position_text_states}
-use Rattle.epc_query.proofs.lent_answers.put_play.Goals as goal
+use Rattle.epc_query.proofs.answers.put_play.Goals as goal
 
 pub returns-clause-answer : goal.returns-clause-answer
 returns-clause-answer g c =

@@ -1,6 +1,6 @@
 use Rattle.std.proofs.Common.{◌*◌, subst}
 use Rattle.race_model.specs.Fractions.{IsFraction}
-use Rattle.epc_query.proofs.lent_answers.put_mean.Goals as goal
+use Rattle.epc_query.proofs.answers.put_mean.Goals as goal
 
 pub returns-clause-answer : goal.returns-clause-answer
 returns-clause-answer g c =

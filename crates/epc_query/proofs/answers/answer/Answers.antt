@@ -2,7 +2,7 @@ use Rattle.std.proofs.Common.{refl, arith}
 use Rattle.race_model.specs.Queries.{mean_query}
 use Rattle.race_model.specs.Replies.{answered}
 use Rattle.query_text.proofs.AcceptedQueries.{accepted_mean}
-use Rattle.epc_query.proofs.lent_answers.answer.Goals as goal
+use Rattle.epc_query.proofs.answers.answer.Goals as goal
 
 pub returns-in-Some-clause-reply : goal.returns-in-Some-clause-reply
 returns-in-Some-clause-reply g c =

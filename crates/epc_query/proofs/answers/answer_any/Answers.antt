@@ -4,16 +4,13 @@ use Rattle.race_model.specs.Replies.{answered, refused}
 use Rattle.query_text.specs.Readings.{asked}
 use Rattle.query_text.specs.Texts.{why}
 use Rattle.query_text.proofs.AcceptedQueries.{accepted_by, answered_query}
-use Rattle.epc_query.proofs.lent_answers.answer_any.Goals as goal
+use Rattle.epc_query.proofs.answers.answer_any.Goals as goal
 
 pub put_answer-requires : goal.put_answer-requires
 put_answer-requires g c = (
   search rules,
-  (
-    answered_query (accepted_by c.args.line.now (asked c.in-Ok.query) c.bound.ensures.bound
-        (c.in-Ok.ensures {u = tt}).accepted),
-    c.requires,
-  ),
+  answered_query (accepted_by c.args.line.now (asked c.in-Ok.query) c.bound.ensures.bound
+      (c.in-Ok.ensures {u = tt}).accepted),
 )
 
 pub returns-in-Ok-clause-reply : goal.returns-in-Ok-clause-reply
