@@ -1,7 +1,7 @@
 -- What the tests of a record tell, where each record of lower rank was accepted.
-use Rattle.std.proofs.Common.{◌≡◌, ⊎_elim, ℕ, ◌*◌, ◌<◌, ◌≤◌, List, sym, subst, refl, arith}
+use Rattle.std.proofs.Common.{◌≡◌, ⊎_elim, ℕ, ◌*◌, ◌<◌, ◌≤◌, List, Option, sym, subst, refl, arith}
 use Rattle.std.proofs.lemmas.Bool.{cases_lt}
-use Rattle.race_model.specs.Positions.{Board, IsPosition, IsFinished, pips}
+use Rattle.race_model.specs.Positions.{Board, IsPosition, pips}
 use Rattle.race_model.specs.Dice.{roll_at, roll_index}
 use Rattle.race_model.specs.Ranks.{rank, at_rank, count_to}
 use Rattle.race_model.specs.Files.{bound_of, record_at, mean_of, share_of, mean}
@@ -113,11 +113,11 @@ module _ (f : List ℕ) (r : ℕ) (lt : r < count_to (bound_of f)) where
 
 -- what is known of the position of a record when its numbers are tested: the plays hold, and the
 -- sums are theirs
-pub record IsSummed (f : List ℕ) (x : Board) (sums : Totals) : Type 0 where
+pub record IsSummed (f : List ℕ) (x : Board) (sums : Option Totals) : Type 0 where
   pub held : (i : ℕ) → i < 21 → IsPlayed f x (roll_at i) × IsBest f x (roll_at i)
-  pub are : ¬ IsFinished x → AreSumsOf f x sums
+  pub are : AreSumsOf f x sums
 
-module _ (f bytes : List ℕ) (r : ℕ) (sums : Totals) (lt : r < count_to (bound_of f))
+module _ (f bytes : List ℕ) (r : ℕ) (sums : Option Totals) (lt : r < count_to (bound_of f))
     (small : bound_of f ≤ 58)
     (lower : (z : Board) → IsPosition z → rank z < r → IsLocalAt f z) (lent : bytes
     ≡ record_at f r)
@@ -125,21 +125,21 @@ module _ (f bytes : List ℕ) (r : ℕ) (sums : Totals) (lt : r < count_to (boun
   ranked : r ≡ rank (at_rank r)
   ranked = sym (rank-is (bound_of f) r lt)
 
-  holds-mean : IsMeanOf (at_rank r) (mean_of bytes) sums → HasMean f (at_rank r)
+  holds-mean : IsMeanOf (mean_of bytes) sums → HasMean f (at_rank r)
   holds-mean = mean-holds f bytes (at_rank r) sums known.are
       (mean-of_lent f bytes (at_rank r) r lent ranked)
 
   -- a mean that isn't that of the sums is the first fault
-  wrong-mean : ¬ IsMeanOf (at_rank r) (mean_of bytes) sums → IsFirstAt f r (mean_test r)
+  wrong-mean : ¬ IsMeanOf (mean_of bytes) sums → IsFirstAt f r (mean_test r)
   wrong-mean fails = first-mean f r lt known.held (λ has. fails
       (mean-tested f bytes (at_rank r) sums known.are
       (mean-of_lent f bytes (at_rank r) r lent ranked)
       (mean-bounded f r lt known.held small lower) has))
 
   -- and so is a share
-  wrong-share : (k : ℕ) → k ≤ 22 → IsMeanOf (at_rank r) (mean_of bytes) sums
-      → ((j : ℕ) → j < k → IsShareOf (at_rank r) (share_of bytes) sums j)
-      → ¬ IsShareOf (at_rank r) (share_of bytes) sums k → IsFirstAt f r (spread_test r k)
+  wrong-share : (k : ℕ) → k ≤ 22 → IsMeanOf (mean_of bytes) sums
+      → ((j : ℕ) → j < k → IsShareOf (share_of bytes) sums j)
+      → ¬ IsShareOf (share_of bytes) sums k → IsFirstAt f r (spread_test r k)
   wrong-share k few mean earlier fails =
       let read = share-of_lent f bytes (at_rank r) r lent ranked in
       first-share f r lt known.held k few (holds-mean mean)
@@ -148,7 +148,7 @@ module _ (f bytes : List ℕ) (r : ℕ) (sums : Totals) (lt : r < count_to (boun
       (λ has. fails (share-tested f bytes (at_rank r) sums known.are read k few has))
 
   -- so the first of the numbers that is wrong is the first fault
-  pub first-wrong : (fault : RecordFault) → IsNumberFault (at_rank r) bytes sums fault
+  pub first-wrong : (fault : RecordFault) → IsNumberFault bytes sums fault
       → IsFirstFaultAt f r fault
   first-wrong (Play roll) never = absurd never
   first-wrong (NotLeast roll) never = absurd never
@@ -157,7 +157,7 @@ module _ (f bytes : List ℕ) (r : ℕ) (sums : Totals) (lt : r < count_to (boun
   first-wrong Read never = absurd never
 
   -- where all are those of the sums, the equations hold
-  pub right-numbers : HasNumbers (at_rank r) bytes sums → IsLocalAt f (at_rank r)
+  pub right-numbers : HasNumbers bytes sums → IsLocalAt f (at_rank r)
   right-numbers has = local-at f r lt known.held (holds-mean has.mean) (λ k few.
       share-holds f bytes (at_rank r) sums known.are
       (share-of_lent f bytes (at_rank r) r lent ranked) k few

@@ -1,4 +1,3 @@
-pub mod Addends
 pub mod RecordNumbers
 pub mod RecordFaults
 pub mod CheckFaults
@@ -8,7 +7,6 @@ pub mod KeptMeans
 pub mod LowerRecords
 pub mod Upgrades
 pub mod Databases
-pub mod Sevens
-pub mod StoredSevens
+pub mod PlaySums
 pub mod BoardTests
 pub mod BoardFaults

@@ -1,6 +1,5 @@
 -- What a fault of a record means.
-use Rattle.std.specs.Prelude.{ℕ, List}
-use Rattle.race_model.specs.Positions.{Board}
+use Rattle.std.specs.Prelude.{ℕ, List, Option}
 use Rattle.race_model.specs.Files.{mean_of}
 use Rattle.race_model.specs.FirstFault.{Test, play_test, least_test, mean_test, spread_test}
 use Rattle.race_model.specs.FirstFault.{Holds, Asks, IsFirstInRecord}
@@ -33,9 +32,9 @@ of_refused roll NotLegal = Play roll
 of_refused roll NotLeastPlay = NotLeast roll
 
 -- the fault is the first of the numbers in the bytes of a record, by these sums
-abbrev pub IsNumberFault : Board → List ℕ → Totals → RecordFault → Type 0
-IsNumberFault x bytes sums (Play roll) = ⊥
-IsNumberFault x bytes sums (NotLeast roll) = ⊥
-IsNumberFault x bytes sums Mean = ¬ IsMeanOf x (mean_of bytes) sums
-IsNumberFault x bytes sums (Spread k) = IsFirstWrong x bytes sums k
-IsNumberFault x bytes sums Read = ⊥
+abbrev pub IsNumberFault : List ℕ → Option Totals → RecordFault → Type 0
+IsNumberFault bytes sums (Play roll) = ⊥
+IsNumberFault bytes sums (NotLeast roll) = ⊥
+IsNumberFault bytes sums Mean = ¬ IsMeanOf (mean_of bytes) sums
+IsNumberFault bytes sums (Spread k) = IsFirstWrong bytes sums k
+IsNumberFault bytes sums Read = ⊥

@@ -1,6 +1,7 @@
 -- The numbers of a record, and the mean and spread equations over sums of what is recorded for the
 -- rolls.
 use Rattle.std.specs.Prelude.{◌≡◌, ℕ, zero, suc, ◌+◌, ◌*◌, ◌<◌, ◌≤◌, List, map, slice_index}
+use Rattle.std.specs.Prelude.{Option, Some, None}
 use Rattle.std.specs.List.{range_with_len}
 use Rattle.race_model.specs.Positions.{Board, IsFinished}
 use Rattle.race_model.specs.Dice.{Throw, weighted}
@@ -16,30 +17,30 @@ plays_of bytes = map (play_of bytes) (range_with_len 0 21)
 unfoldable pub shares_of : List ℕ → List ℕ
 shares_of bytes = map (share_of bytes) (range_with_len 0 23)
 
--- the mean of a record is that of these sums
-pub record IsMeanOf (x : Board) (mean : ℕ) (sums : Totals) : Type 0 where
-  pub at_end : IsFinished x → mean ≡ 0
-  pub before : ¬ IsFinished x → (mean ≤ 22 * whole) × (36 * mean ≡ 36 * whole + sums.mean)
+-- the mean of a record is that of these sums, or of no roll where there are none, as for the
+-- finished position
+abbrev pub IsMeanOf : ℕ → Option Totals → Type 0
+IsMeanOf mean None = mean ≡ 0
+IsMeanOf mean (Some sums) = (mean ≤ 22 * whole) × (36 * mean ≡ 36 * whole + sums.mean)
 
--- the share of exactly k rolls is that of these sums
-abbrev pub IsShareOf : Board → (ℕ → ℕ) → Totals → ℕ → Type 0
-IsShareOf x share sums zero =
-    (IsFinished x → share 0 ≡ whole) × (¬ IsFinished x → share 0 ≡ 0)
-IsShareOf x share sums (suc k) =
-    (IsFinished x → share (suc k) ≡ 0)
-    × (¬ IsFinished x → 36 * share (suc k) ≡ slice_index sums.shares k)
+-- .. and so is the share of exactly k rolls
+abbrev pub IsShareOf : (ℕ → ℕ) → Option Totals → ℕ → Type 0
+IsShareOf share None zero = share 0 ≡ whole
+IsShareOf share None (suc k) = share (suc k) ≡ 0
+IsShareOf share (Some sums) zero = share 0 ≡ 0
+IsShareOf share (Some sums) (suc k) = 36 * share (suc k) ≡ slice_index sums.shares k
 
 -- the mean and each share in the bytes of a record are those of these sums
-pub record HasNumbers (x : Board) (bytes : List ℕ) (sums : Totals) : Type 0 where
-  pub mean : IsMeanOf x (mean_of bytes) sums
-  pub shares : (k : ℕ) → k ≤ 22 → IsShareOf x (share_of bytes) sums k
+pub record HasNumbers (bytes : List ℕ) (sums : Option Totals) : Type 0 where
+  pub mean : IsMeanOf (mean_of bytes) sums
+  pub shares : (k : ℕ) → k ≤ 22 → IsShareOf (share_of bytes) sums k
 
 -- the mean is, and of the shares that of exactly k rolls is the first that isn't
-pub record IsFirstWrong (x : Board) (bytes : List ℕ) (sums : Totals) (k : ℕ) : Type 0 where
+pub record IsFirstWrong (bytes : List ℕ) (sums : Option Totals) (k : ℕ) : Type 0 where
   pub few : k ≤ 22
-  pub mean : IsMeanOf x (mean_of bytes) sums
-  pub earlier : (j : ℕ) → j < k → IsShareOf x (share_of bytes) sums j
-  pub wrong : ¬ IsShareOf x (share_of bytes) sums k
+  pub mean : IsMeanOf (mean_of bytes) sums
+  pub earlier : (j : ℕ) → j < k → IsShareOf (share_of bytes) sums j
+  pub wrong : ¬ IsShareOf (share_of bytes) sums k
 
 -- the mean of the position that a throw is recorded to lead to
 abbrev pub recorded_mean : List ℕ → Board → Throw → ℕ
@@ -49,8 +50,14 @@ recorded_mean f x v = mean_at f (play f x v)
 abbrev pub recorded_share : List ℕ → Board → Throw → ℕ → ℕ
 recorded_share f x v k = spread_at f (play f x v) k
 
--- the sums of what is recorded for the 36 throws
-pub record AreSumsOf (f : List ℕ) (x : Board) (sums : Totals) : Type 0 where
+-- the sums of what is recorded for the 36 throws from a position that isn't finished
+pub record AreTotalsAt (f : List ℕ) (x : Board) (sums : Totals) : Type 0 where
+  pub unfinished : ¬ IsFinished x
   pub means : sums.mean ≡ weighted (recorded_mean f x)
   pub each : (k : ℕ) → k < 23 →
       slice_index sums.shares k ≡ weighted (λ v. recorded_share f x v k)
+
+-- .. and none of the finished one
+abbrev pub AreSumsOf : List ℕ → Board → Option Totals → Type 0
+AreSumsOf f x None = IsFinished x
+AreSumsOf f x (Some sums) = AreTotalsAt f x sums

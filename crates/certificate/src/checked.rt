@@ -77,8 +77,8 @@ impl<T: Table> Model for Checked<T> {
 /// it is refused as `Read` exactly where a read failed. The table is handed back with the fault
 /// and tells the same bytes. It takes no memory, and adds a stored number to others only where it
 /// was accepted before.
-// so that its room is not part of its caller's
-#[inline(never)]
+// so that its result and the table of ranks have one room
+#[inline(always)]
 pub fn check<T: Table>(mut table: T) -> Result<Checked<T>, (T, CheckFault)>
     ensures told { IfOk result (λ checked. checked.told ≡ T.tells table) }
     ensures back { IfErr result (λ refused. T.tells refused.0 ≡ T.tells table) }

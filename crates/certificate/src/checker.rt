@@ -17,6 +17,7 @@ use db_layout::Header;
 use db_reader::{Record, Table, TableFault};
 use least_plays::{ROWS_TO_8, ROWS_TO_90};
 use ranking::Ranks;
+use std::array;
 
 /// How many means are kept to 8 pips: those of all positions.
 const ROOM_TO_8: usize = 64;
@@ -84,7 +85,7 @@ fn check_with_room<T: Table, const ROOM: usize, const ROWS: usize>(
 {
     let mut lower: LowerRecords<ROOM, ROWS> = LowerRecords::new();
     let mut own = Record::new();
-    let mut rooms = seven_rooms();
+    let mut rooms = array::from_fn(|_| Record::new());
     for rank in 0..header.count {
         if let Err(fault) = check_record(
             table, ranks, header, rank, &mut lower, &mut own, &mut rooms,
@@ -93,18 +94,4 @@ fn check_with_room<T: Table, const ROOM: usize, const ROWS: usize>(
         }
     }
     Ok(header)
-}
-
-/// A room for each record of seven that are lent at once.
-#[inline(always)]
-fn seven_rooms() -> [Record; 7] {
-    [
-        Record::new(),
-        Record::new(),
-        Record::new(),
-        Record::new(),
-        Record::new(),
-        Record::new(),
-        Record::new(),
-    ]
 }

@@ -9,7 +9,6 @@
 //! strategies; whoever built a file is not trusted.
 #![tactic(auto)]
 
-mod addends;
 pub mod board_checker;
 mod board_numbers;
 mod check_fault;
@@ -19,9 +18,9 @@ mod equations;
 mod kept;
 mod lines;
 mod numbers;
+mod play_sums;
 mod query_fault;
 mod record_check;
-mod record_sums;
 mod upgrade_fault;
 mod upgrading;
 

@@ -5,7 +5,7 @@ ghost use Rattle.race_model.specs.Versions.{version_by, first_share, record_leng
 ghost use Rattle.race_model.specs.Files.{bytes_at, told_record, mean_of, play_of, share_of};
 ghost use Rattle.race_model.specs.ToldShares.{told_share};
 ghost use Rattle.std.specs.Int.{w16, w32, w64, w128, from_be_bytes};
-ghost use Rattle.db_layout.specs.StoredShares.{stored_share};
+ghost use Rattle.db_layout.specs.StoredShares.{share_by};
 
 use crate::header::Header;
 use crate::places::{first_share, most_rolls, record_length, share_count};
@@ -104,19 +104,16 @@ impl<'a> RecordView<'a> {
         tell_share(self.bytes, self.version, self.pips, k)
     }
 
-    /// The shares that it stores. There are none beyond them.
+    /// The shares that it tells.
+    #[inline(always)]
     pub fn stored_shares(&self) -> StoredShares<'a>
-        ensures told { (k : ℕ) → result.first ≤ k → k < result.end →
-            stored_share result k ≡ share_of self.now k }
-        ensures none { (k : ℕ) → k ≤ 22 → result.first ≤ k → result.end ≤ k →
-            share_of self.now k ≡ 0 }
-        ensures few { result.end ≤ 23 }
-        ensures begun { result.first ≤ 1 }
+        ensures { (k : ℕ) → k ≤ 22 → share_by result k ≡ share_of self.now k }
     {
         let first = first_share(self.version);
         StoredShares {
             bytes: &self.bytes[58 - 16 * usize::from(first)..],
-            first,
+            version: self.version,
+            pips: self.pips,
             end: first + share_count(self.version, self.pips),
         }
     }

@@ -1,7 +1,8 @@
 -- Sums over the rolls, added up in the order of their indices.
-use Rattle.std.proofs.Common.{◌≡◌, ℕ, suc, ◌+◌, ◌*◌, ◌^◌, ◌<◌, ◌≤◌, List, [], ◌∷◌, length, get_or, take}
+use Rattle.std.proofs.Common.{◌≡◌, ⊎_elim, ℕ, suc, ◌+◌, ◌*◌, ◌^◌, ◌<◌, ◌≤◌, List, [], ◌∷◌, length, get_or, take}
 use Rattle.std.proofs.Common.{map, sum_by, sum, refl, sym, ap, subst, ◌∙◌, arith}
-use Rattle.std.proofs.lemmas.List.{take_all, get_or-map}
+use Rattle.std.proofs.lemmas.Bool.{cases_lt}
+use Rattle.std.proofs.lemmas.List.{take_all, get_or-map, get_or_past}
 use Rattle.std.proofs.lemmas.List.Sums.{sum_by-cons, sum_by_more, sum_by-take-le}
 use Rattle.race_model.specs.Dice.{Throw, one, all_rolls, roll_at, roll_index, weight, weighted}
 use Rattle.race_model.specs.LocalEquations.{whole}
@@ -114,6 +115,14 @@ pub sum_at-more : (spreads : List (List ℕ)) (indices : List ℕ) (j k : ℕ) �
     ≡ sum_at spreads (take j indices) k + get_or (get_or spreads (get_or indices j 0) []) k 0
 sum_at-more spreads indices j k lt =
     sum_by_more (λ i. get_or (get_or spreads i []) k 0) indices j 0 lt
+
+-- where none of 21 spreads has a share of exactly k rolls, the sum of some is none
+pub sum_at-zero : (spreads : List (List ℕ)) (indices : List ℕ) (k : ℕ) → length spreads ≡ 21
+    → ((i : ℕ) → i < 21 → get_or (get_or spreads i []) k 0 ≡ 0) → sum_at spreads indices k ≡ 0
+sum_at-zero spreads indices k len none =
+    sum_by-zero (λ i. get_or (get_or spreads i []) k 0) indices (λ i. ⊎_elim (none i)
+    (λ past. ap (λ (xs : List ℕ). get_or xs k 0) (get_or_past spreads i [] (omega (arith, past, len))))
+    (cases_lt i 21))
 
 -- where no roll leads to a share of exactly k rolls, their sum is none
 pub weighted_at-zero : (spreads : List (List ℕ)) (k : ℕ)

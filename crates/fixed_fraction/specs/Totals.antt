@@ -3,19 +3,16 @@ use Rattle.std.specs.Prelude.{◌≡◌, ℕ, ◌*◌, ◌≤◌, List, [], leng
 use Rattle.race_model.specs.Dice.{roll_index, weighted}
 use Rattle.race_model.specs.LocalEquations.{whole}
 
--- the weights, the means, and for each of 0 to 22 rolls the shares, added up
+-- the means, and for each of 0 to 22 rolls the shares, added up
 pub record Totals : Type 0 where
-  pub weight : ℕ
   pub mean : ℕ
   pub shares : List ℕ
 
--- totals of means of at most 22 rolls and of shares that add up to the whole, with a weight
--- of at most 36
+-- totals of 36 throws, by means of at most 22 rolls and shares that add up to the whole
 pub record AreSmall (totals : Totals) : Type 0 where
   pub len : length totals.shares ≡ 23
-  pub light : totals.weight ≤ 36
-  pub mean : totals.mean ≤ totals.weight * (22 * whole)
-  pub shares : sum totals.shares ≡ totals.weight * whole
+  pub mean : totals.mean ≤ 36 * (22 * whole)
+  pub shares : sum totals.shares ≡ 36 * whole
 
 -- of the shares that the rolls lead to, by their index, the weighted sum of those of k rolls
 abbrev pub weighted_at : List (List ℕ) → ℕ → ℕ

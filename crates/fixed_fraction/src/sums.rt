@@ -1,12 +1,12 @@
 //! Weighted sums over the 21 rolls.
 ghost use Rattle.std.specs.Prelude.{◌≡◌, ◌≢◌, ℕ, suc, ◌+◌, ◌*◌, ◌%◌, ◌^◌, ◌<◌, ◌≤◌, ◌↔◌};
 ghost use Rattle.std.specs.Prelude.{List, [], length, map, slice_index, slice_index_or, sum};
-ghost use Rattle.std.specs.Prelude.{IsSome, IfSome, All};
+ghost use Rattle.std.specs.Prelude.{IsTrue, IsSome, IfSome, All};
 ghost use Rattle.race_model.specs.Dice.{roll_index, weighted};
 ghost use Rattle.race_model.specs.LocalEquations.{whole};
 ghost use Rattle.fixed_fraction.specs.Totals.{weighted_at, sum_at};
 
-use crate::scaled::{Scaled, WHOLE};
+use crate::scaled::{MOST, Scaled, WHOLE};
 use crate::spread::Spread;
 use std::marker::Model;
 
@@ -77,43 +77,72 @@ pub struct Sums {
     rolls: u8,
 }
 
-// Clauses see the sums of the weights, of the means, and of the shares of 0 to 22 rolls.
+// Clauses see the sums of the means, and of the shares of 0 to 22 rolls.
 impl Model for Sums {
     ghost use Rattle.std.specs.Prelude.{◌≡◌, ℕ, ◌≤◌, slice_index};
     ghost use Rattle.fixed_fraction.specs.Totals.{Totals, AreSmall};
 
     ghost Value = { Totals };
 
-    ghost view = { λ sums. record { weight = 36; mean = sums.mean; shares = sums.shares } };
+    ghost view = { λ sums. record { mean = sums.mean; shares = sums.shares } };
 
-    ghost invariant = { λ sums.
-        AreSmall (record { weight = 36; mean = sums.mean; shares = sums.shares })
+    ghost invariant = { λ sums. AreSmall (record { mean = sums.mean; shares = sums.shares })
         × ((k : ℕ) → sums.rolls ≤ k → slice_index sums.shares k ≡ 0) };
 }
 
 impl Sums {
     /// The sums of the means and of the shares that the rolls lead to, in the order of their
-    /// indices. None of them has a share of so many rolls or more.
+    /// indices. None of them has a share of fewer than `first` rolls, or of so many as `rolls` or
+    /// more.
     #[inline(always)]
-    pub fn of<S: Distribution>(means: &[Scaled; 21], spreads: &[S; 21], rolls: u8) -> Self
+    pub fn of<S: Distribution>(
+        means: &[Scaled; 21],
+        spreads: &[S; 21],
+        first: u8,
+        rolls: u8,
+    ) -> Self
+        requires order { first ≤ rolls }
         requires few { rolls ≤ 23 }
+        requires before { (i k : ℕ) → i < 21 → k < first →
+            slice_index (slice_index_or (map S.shares spreads.now) i []) k ≡ 0 }
         requires beyond { (i k : ℕ) → i < 21 → rolls ≤ k →
             slice_index (slice_index_or (map S.shares spreads.now) i []) k ≡ 0 }
-        ensures weight { result.weight ≡ 36 }
         ensures mean { result.mean ≡ weighted (λ v. slice_index means.now (roll_index v)) }
         ensures shares { (k : ℕ) → k < 23 → slice_index result.shares k
             ≡ weighted_at (map S.shares spreads.now) k }
     {
         law_spreads(spreads);
         let mut shares = [0; 23];
-        add_plays(&mut shares, spreads, &OTHERS, rolls);
+        add_plays(&mut shares, spreads, &OTHERS, first, rolls);
         double(&mut shares);
-        add_plays(&mut shares, spreads, &DOUBLES, rolls);
+        add_plays(&mut shares, spreads, &DOUBLES, first, rolls);
         Sums {
             mean: sum_of_means(means),
             shares,
             rolls,
         }
+    }
+
+    /// Whether a number is one roll and a 36th of the means, and no more than 22 rolls. It is
+    /// compared without a division.
+    #[inline(always)]
+    #[tactic(auto, unfolding(race_model::specs::LocalEquations::whole))]
+    pub fn is_mean(&self, number: u128) -> bool
+        ensures { IsTrue result ↔
+            ((number ≤ 22 * whole) × (36 * number ≡ 36 * whole + self.now.mean)) }
+    {
+        number <= MOST && number >= WHOLE && 36 * (number - WHOLE) == self.mean
+    }
+
+    /// Whether a number is a 36th of the shares of exactly `k` rolls, and so the share of one roll
+    /// more; none is from 23 rolls on. It is compared without a division.
+    #[inline(always)]
+    pub fn is_later_share(&self, k: u8, number: u128) -> bool
+        requires { k ≤ 22 }
+        ensures { IsTrue result ↔ (36 * number ≡ slice_index self.now.shares k) }
+    {
+        let sum = self.shares[usize::from(k)];
+        number <= u128::MAX / 36 && 36 * number == sum
     }
 
     /// One roll and a 36th of the means. None exactly where that is no whole numerator or over 22
@@ -194,13 +223,22 @@ fn sum_of_means(means: &[Scaled; 21]) -> u128
     total
 }
 
-/// Adds the shares of the plays of these rolls, by their indices, none of which has one of so many
-/// rolls or more. As long as all of them may have one, those of one number of rolls are added up
-/// after the other, so that each sum is read and written once.
+/// Adds the shares of the plays of these rolls, by their indices, none of which has one of fewer
+/// than `first` rolls, or of so many as `rolls` or more. As long as all of them may have one, those
+/// of one number of rolls are added up after the other, so that each sum is read and written once.
 #[inline(always)]
-fn add_plays<S: Distribution>(shares: &mut [u128; 23], spreads: &[S; 21], indices: &[u8], rolls: u8)
+fn add_plays<S: Distribution>(
+    shares: &mut [u128; 23],
+    spreads: &[S; 21],
+    indices: &[u8],
+    first: u8,
+    rolls: u8,
+)
     requires indices { All (λ i. i < 21) indices.now }
+    requires order { first ≤ rolls }
     requires few { rolls ≤ 23 }
+    requires before { (i k : ℕ) → i < 21 → k < first →
+        slice_index (slice_index_or (map S.shares spreads.now) i []) k ≡ 0 }
     requires beyond { (i k : ℕ) → i < 21 → rolls ≤ k →
         slice_index (slice_index_or (map S.shares spreads.now) i []) k ≡ 0 }
     requires room { (k : ℕ) → k < 23 →
@@ -211,60 +249,73 @@ fn add_plays<S: Distribution>(shares: &mut [u128; 23], spreads: &[S; 21], indice
     ensures small { (k : ℕ) → k < 23 → slice_index shares.new k
         ≤ slice_index shares.old k + length indices.now * whole }
 {
-    let end = least_end(spreads, indices, rolls);
-    add_common(shares, spreads, indices, end);
-    add_rest(shares, spreads, indices, end, rolls);
+    let from = first.max(1);
+    let end = least_end(spreads, indices, rolls).max(from);
+    add_each(shares, spreads, indices, first, from);
+    add_common(shares, spreads, indices, from, end);
+    add_each(shares, spreads, indices, end, rolls);
 }
 
-/// Adds the shares of these plays of fewer than `end` rolls, which all of them may have.
-// the loop begins at 0, since the compiler moves a pointer for each play where it may begin later
+/// Adds the shares of these plays of `from` to one before `end` rolls, which all of them may have.
+// the loop begins at 0, since the compiler moves a pointer for each play where it may begin later,
+// and a share of one roll or more may be read with no test for that of none
 #[inline(always)]
-fn add_common<S: Distribution>(shares: &mut [u128; 23], spreads: &[S; 21], indices: &[u8], end: u8)
-    requires indices { All (λ i. i < 21) indices.now }
-    requires few { end ≤ 23 }
-    requires stored { (k : ℕ) → k < end → (j : ℕ) → j < length indices.now →
-        k < slice_index (map S.end spreads.now) (slice_index indices.now j) }
-    requires room { (k : ℕ) → k < end →
-        slice_index shares.old k + length indices.now * whole < 2 ^ 128 }
-    ensures len { length shares.new ≡ 23 }
-    ensures added { (k : ℕ) → k < end → slice_index shares.new k
-        ≡ slice_index shares.old k + sum_at (map S.shares spreads.now) indices.now k }
-    ensures small { (k : ℕ) → k < end → slice_index shares.new k
-        ≤ slice_index shares.old k + length indices.now * whole }
-    ensures beyond { (k : ℕ) → end ≤ k → slice_index shares.new k ≡ slice_index shares.old k }
-{
-    law_spreads(spreads);
-    for k in 0..end {
-        shares[usize::from(k)] += sum_of_shares(spreads, indices, k);
-    }
-}
-
-/// Adds the shares of these plays of `from` rolls and more. None of them has one of `rolls` or
-/// more.
-#[inline(always)]
-fn add_rest<S: Distribution>(
+fn add_common<S: Distribution>(
     shares: &mut [u128; 23],
     spreads: &[S; 21],
     indices: &[u8],
     from: u8,
-    rolls: u8,
+    end: u8,
 )
     requires indices { All (λ i. i < 21) indices.now }
-    requires few { rolls ≤ 23 }
-    requires beyond { (i k : ℕ) → i < 21 → rolls ≤ k →
-        slice_index (slice_index_or (map S.shares spreads.now) i []) k ≡ 0 }
-    requires room { (k : ℕ) → from ≤ k → k < 23 →
+    requires few { end ≤ 23 }
+    requires stored { (k : ℕ) → from ≤ k → k < end → (j : ℕ) → j < length indices.now →
+        k < slice_index (map S.end spreads.now) (slice_index indices.now j) }
+    requires room { (k : ℕ) → from ≤ k → k < end →
         slice_index shares.old k + length indices.now * whole < 2 ^ 128 }
     ensures len { length shares.new ≡ 23 }
-    ensures added { (k : ℕ) → from ≤ k → k < 23 → slice_index shares.new k
+    ensures added { (k : ℕ) → from ≤ k → k < end → slice_index shares.new k
         ≡ slice_index shares.old k + sum_at (map S.shares spreads.now) indices.now k }
-    ensures small { (k : ℕ) → from ≤ k → k < 23 → slice_index shares.new k
+    ensures small { (k : ℕ) → from ≤ k → k < end → slice_index shares.new k
         ≤ slice_index shares.old k + length indices.now * whole }
     ensures before { (k : ℕ) → k < from → slice_index shares.new k ≡ slice_index shares.old k }
+    ensures beyond { (k : ℕ) → end ≤ k → slice_index shares.new k ≡ slice_index shares.old k }
 {
     law_spreads(spreads);
+    for k in 0..end {
+        if k >= from {
+            shares[usize::from(k)] += sum_of_shares(spreads, indices, k);
+        }
+    }
+}
+
+/// Adds the shares of these plays of `from` to one before `to` rolls, one play after the other.
+#[inline(always)]
+fn add_each<S: Distribution>(
+    shares: &mut [u128; 23],
+    spreads: &[S; 21],
+    indices: &[u8],
+    from: u8,
+    to: u8,
+)
+    requires indices { All (λ i. i < 21) indices.now }
+    requires few { to ≤ 23 }
+    requires room { (k : ℕ) → from ≤ k → k < to →
+        slice_index shares.old k + length indices.now * whole < 2 ^ 128 }
+    ensures len { length shares.new ≡ 23 }
+    ensures added { (k : ℕ) → from ≤ k → k < to → slice_index shares.new k
+        ≡ slice_index shares.old k + sum_at (map S.shares spreads.now) indices.now k }
+    ensures small { (k : ℕ) → from ≤ k → k < to → slice_index shares.new k
+        ≤ slice_index shares.old k + length indices.now * whole }
+    ensures before { (k : ℕ) → k < from → slice_index shares.new k ≡ slice_index shares.old k }
+    ensures beyond { (k : ℕ) → to ≤ k → slice_index shares.new k ≡ slice_index shares.old k }
+{
+    if to <= from {
+        return;
+    }
+    law_spreads(spreads);
     for place in 0..indices.len() {
-        add_shares(shares, spreads[usize::from(indices[place])], from, rolls);
+        add_shares(shares, spreads[usize::from(indices[place])], from, to);
     }
 }
 
@@ -317,19 +368,19 @@ fn double(shares: &mut [u128; 23])
     }
 }
 
-/// Adds the shares of one play of `from` rolls and more. It has none of `rolls` or more.
+/// Adds the shares of one play of `from` to one before `to` rolls.
 #[inline(always)]
-fn add_shares<S: Distribution>(shares: &mut [u128; 23], spread: S, from: u8, rolls: u8)
-    requires few { rolls ≤ 23 }
-    requires beyond { (k : ℕ) → rolls ≤ k → slice_index (S.shares spread) k ≡ 0 }
-    requires room { (k : ℕ) → from ≤ k → k < 23 →
+fn add_shares<S: Distribution>(shares: &mut [u128; 23], spread: S, from: u8, to: u8)
+    requires few { to ≤ 23 }
+    requires room { (k : ℕ) → from ≤ k → k < to →
         slice_index shares.old k + slice_index (S.shares spread) k < 2 ^ 128 }
     ensures len { length shares.new ≡ 23 }
-    ensures added { (k : ℕ) → from ≤ k → k < 23 → slice_index shares.new k
+    ensures added { (k : ℕ) → from ≤ k → k < to → slice_index shares.new k
         ≡ slice_index shares.old k + slice_index (S.shares spread) k }
     ensures before { (k : ℕ) → k < from → slice_index shares.new k ≡ slice_index shares.old k }
+    ensures beyond { (k : ℕ) → to ≤ k → slice_index shares.new k ≡ slice_index shares.old k }
 {
-    for k in from..spread.end().min(rolls) {
+    for k in from..spread.end().min(to) {
         shares[usize::from(k)] += spread.share(k);
     }
 }

@@ -123,5 +123,5 @@ fn sums_of<L: LowerRecords>(records: &L, plays: &[u16; 21], rolls: u8) -> Sums
         means[index] = records.mean(plays[index]);
         spreads[index] = records.spread(plays[index]);
     }
-    Sums::of(&means, &spreads, rolls)
+    Sums::of(&means, &spreads, 0, rolls)
 }

@@ -1,5 +1,5 @@
 -- The tests of the record of one rank, from its plays to its shares.
-use Rattle.std.proofs.Common.{◌≡◌, ℕ, ◌+◌, ◌<◌, ◌≤◌, List, Some, slice_index, sym, ap}
+use Rattle.std.proofs.Common.{◌≡◌, ℕ, ◌+◌, ◌<◌, ◌≤◌, List, Option, Some, slice_index, sym, ap}
 use Rattle.std.proofs.Common.{subst, ◌∙◌, arith, rules}
 use Rattle.race_model.specs.Positions.{Board, IsPosition, IsFinished, pips}
 use Rattle.race_model.specs.Ranks.{rank, count_to, at_rank}
@@ -28,12 +28,9 @@ use Rattle.db_reader.proofs.Failures.{rose_as, table_as, table_more, err-same}
 use Rattle.std.proofs.lemmas.Bool.{false≢true}
 use Rattle.certificate.specs.KeptMeans.{kept_mean}
 use Rattle.fixed_fraction.specs.Totals.{Totals}
-use Rattle.certificate.specs.RecordNumbers.{HasNumbers}
 use Rattle.certificate.specs.RecordFaults.{IsFirstFaultAt, IsNumberFault, of_refused}
 use Rattle.certificate.proofs.Accepted.{play-of_lent}
 use Rattle.certificate.proofs.RecordBytes.{mean-of_record, get_or-plays_of}
-use Rattle.certificate.specs.Addends.{IsAddend}
-use Rattle.certificate.proofs.PlayNumbers.{play-addend}
 use Rattle.certificate.proofs.KeptMeans.{accepted-mean_more}
 use Rattle.certificate.proofs.PlayTests.{held-in_file, first-in_file}
 use Rattle.certificate.proofs.RecordTests.{IsSummed, first-refused, first-wrong, right-numbers}
@@ -146,18 +143,6 @@ sum_plays-requires-clause-played g c file told i lt =
     (sym (c.in_default.ensures {u = tt}).stays ∙ told)
     (c.in_default-check_plays.ensures {u = tt}).least i lt).0
 
--- .. and numbers that can be added
-pub sum_plays-requires-clause-small : goal.sum_plays-requires-clause-small
-sum_plays-requires-clause-small g c file told unfinished i lt =
-    let here = (goal.at.sum_plays-requires-clause-small g c).After-unwrap-position in
-    let read = (goal.at.sum_plays-requires-clause-small g c).After-plays_in-recorded in
-    let now = sym (c.in_default.ensures {u = tt}).stays ∙ told in
-    let held = plays-hold g read file now (c.in_default-check_plays.ensures {u = tt}).least i lt in
-    subst (λ r. IsAddend 0 23 (record_at file r)) (sym (recorded_at g read file told i lt))
-    (play-addend file c.unwrap-position.result (at g here) (short g here)
-    (subst (λ r. (z : Board) → IsPosition z → rank z < r → IsLocalAt file z) (sym (ranked g here))
-    (c.requires.lower file now)) unfinished (roll_at i) held.0)
-
 -- a rank that is played has a record
 pub sum_plays-requires-clause-have : goal.sum_plays-requires-clause-have
 sum_plays-requires-clause-have g c i lt =
@@ -265,15 +250,15 @@ unread g c =
     table_more first (c.in-Ok.ensures {u = tt}).stays (λ no. cc)
 
 -- a fault of the numbers is no failed read
-number-read : (x : Board) (bytes : List ℕ) (sums : Totals) (fault : RecordFault) →
-    IsNumberFault x bytes sums fault → fault ≡ ReadRecord → ⊥
-number-read x bytes sums fault wrong e = subst (IsNumberFault x bytes sums) e wrong
+number-read : (bytes : List ℕ) (sums : Option Totals) (fault : RecordFault) →
+    IsNumberFault bytes sums fault → fault ≡ ReadRecord → ⊥
+number-read bytes sums fault wrong e = subst (IsNumberFault bytes sums) e wrong
 
 pub returns-in-Err-check_numbers-clause-stays : goal.returns-in-Err-check_numbers-clause-stays
 returns-in-Err-check_numbers-clause-stays g c =
     let at = (goal.at.returns-in-Err-check_numbers-clause-stays g c).After-lend-view in
     table_as (unread g at)
-    (λ e. number-read c.unwrap-position.result c.lend-view.result c.in-Ok.sums
+    (λ e. number-read c.lend-view.result c.in-Ok.sums
     c.in-Err-check_numbers.fault (c.in-Err-check_numbers.ensures {u = tt}).fault (err-same e))
     (λ no. absurd no)
 
@@ -287,8 +272,7 @@ returns-in-Err-check_numbers-clause-first g c file told =
     (summed g at file told
     (plays-hold g (goal.at.returns-in-Err-check_numbers-clause-first g c).After-plays_in-recorded
     file told (c.in_default-check_plays.ensures {u = tt}).least)) fault
-    (subst (λ (x : Board). IsNumberFault x c.lend-view.result c.in-Ok.sums fault)
-    (position-is g at file told) (c.in-Err-check_numbers.ensures {u = tt}).fault)
+    (c.in-Err-check_numbers.ensures {u = tt}).fault
 
 pub returns-clause-stays : goal.returns-clause-stays
 returns-clause-stays g c =
@@ -304,8 +288,7 @@ returns-clause-local g c file told =
     (summed g at file told
     (plays-hold g (goal.at.returns-clause-local g c).After-plays_in-recorded file told
     (c.in_default-check_plays.ensures {u = tt}).least))
-    (subst (λ (x : Board). HasNumbers x c.lend-view.result c.in-Ok.sums)
-    (position-is g at file told) (c.in_default-check_numbers.ensures {u = tt}).right)
+    (c.in_default-check_numbers.ensures {u = tt}).right
 
 pub returns-clause-kept : goal.returns-clause-kept
 returns-clause-kept g c = record {

@@ -1,39 +1,74 @@
--- Three times seven rolls are all.
-use Rattle.std.proofs.Common.{◌≡◌, ◌+◌, ◌*◌, ◌<◌, sym, ap, subst, ◌∙◌, get_or}
+-- The sums are those of what is recorded.
+use Rattle.std.proofs.Common.{◌≡◌, ⊎_elim, ℕ, ◌<◌, ◌≤◌, List, Some, sym, ap, subst, ◌∙◌, arith, get_or}
 use Rattle.std.proofs.lemmas.Bool.{false≢true}
-use Rattle.race_model.specs.Positions.{Board, IsPosition, checkers, pips}
-use Rattle.race_model.specs.Files.{record_at}
-use Rattle.race_model.specs.Horizon.{most_rolls}
-use Rattle.certificate.specs.Addends.{IsAddend}
-use Rattle.race_model.proofs.Plays.MostPlays.{get_or-zeros}
-use Rattle.certificate.proofs.PlayNumbers.{sums-are}
-use Rattle.certificate.proofs.Sevens.{last-each}
+use Rattle.race_model.specs.Positions.{IsFinished}
+use Rattle.race_model.specs.Dice.{roll_at}
+use Rattle.race_model.specs.Files.{record_at, spread_at}
+use Rattle.certificate.specs.PlaySums.{IsAccepted}
+use Rattle.certificate.proofs.PlayNumbers.{play-accepted, play-before, play-beyond, sums-are}
+use Rattle.certificate.proofs.PlaySums.{passes_or_not}
+use Rattle.certificate.proofs.record_check.sum_plays.Given.{Over}
+use Rattle.certificate.proofs.record_check.sum_plays.Goals.{After-range_of-first}
 use Rattle.certificate.proofs.record_check.sum_plays.Goals as goal
 
-pub add_seven-requires-3-clause-small : goal.add_seven-requires-3-clause-small
-add_seven-requires-3-clause-small g c file told =
-    let one = (c.in_ok-add_seven.ensures {u = tt}).stays.told in
-    let two = (c.in_ok-add_seven-2.ensures {u = tt}).stays.told in
-    let small = c.requires.small file (sym one ∙ (sym two ∙ told))
-    (λ is. false≢true (sym c.if-is_finished.false ∙ c.is_finished.ensures.value.1 is)) in
-    last-each c.args.recorded.now (λ r. IsAddend 0 23 (record_at file r)) small
+-- the plays of a position that isn't finished, where the table tells its bytes
+module _ (g : Over) (c : After-range_of-first g) (file : List ℕ)
+    (told : g.T.Table.tells c.load_plays.new.table ≡ Some file) where
+  before-told : g.T.Table.tells c.args.table.now ≡ Some file
+  before-told = sym (c.in_ok-load_plays.ensures {u = tt}).stays.told ∙ told
 
-pub returns-clause-totals : goal.returns-clause-totals
-returns-clause-totals g c file told unfinished =
-    let x = c.args.position.now in
-    let subject = c.of-subject.result in
-    let same : subject.position.now ≡ x = c.of-subject.ensures in
-    let one = c.in_ok-add_seven.ensures {u = tt} in
-    let two = c.in_ok-add_seven-2.ensures {u = tt} in
-    let three = c.in_ok-add_seven-3.ensures {u = tt} in
-    let after = one.stays.told ∙ told in
-    sums-are file x (subst IsPosition same subject.is) c.requires.short
-    (c.requires.lower file told) unfinished c.args.recorded.now (c.requires.recorded file told)
-    (c.requires.played file told) subject.first subject.end c.new-sums.result
-    c.add_seven.new.sums c.add_seven-2.new.sums c.add_seven-3.new.sums
-    (subject.end_is ∙ ap (λ (y : Board). most_rolls (pips y)) same) subject.order
-    (λ k less. subst (λ (y : Board). 4 * k + 4 < checkers y) same (subject.none k less))
-    (ap (λ t. t.mean) c.new-sums.ensures)
-    (λ k lt. ap (λ t. get_or t.shares k 0) c.new-sums.ensures ∙ get_or-zeros 23 k)
-    (one.added file told) (two.added file after)
-    (three.added file (two.stays.told ∙ after))
+  unfinished : ¬ IsFinished c.args.position.now
+  unfinished is = absurd (false≢true (sym c.if-is_finished.false ∙ c.is_finished.ensures.value.1 is))
+
+  -- each is an accepted record
+  accepted : (i : ℕ) → i < 21 → IsAccepted (record_at file (get_or c.args.recorded.now i 0))
+  accepted i lt =
+      subst (λ r. IsAccepted (record_at file r)) (sym (c.requires.recorded file before-told i lt))
+      (play-accepted file c.args.position.now c.requires.position c.requires.short
+      (c.requires.lower file before-told) unfinished (roll_at i)
+      (c.requires.played file before-told i lt))
+
+  -- with no share outside the range
+  none-before : (i k : ℕ) → i < 21 → k < c.range_of-first.result.0
+      → spread_at file (get_or c.args.recorded.now i 0) k ≡ 0
+  none-before i k lt less = ⊎_elim
+      (λ known.
+      ap (λ r. spread_at file r k) (c.requires.recorded file before-told i lt)
+      ∙ play-before file c.args.position.now c.requires.position c.requires.short
+      (c.requires.lower file before-told) unfinished (roll_at i)
+      (c.requires.played file before-told i lt) k (c.range_of-first.ensures.before known k less)
+      (omega (arith, less, c.range_of-first.ensures.order, c.range_of-first.ensures.few)))
+      (λ not. absurd (omega (arith, less, (c.range_of-first.ensures.unknown not).0)))
+      (passes_or_not c.is_told-is_known.result)
+
+  none-beyond : (i k : ℕ) → i < 21 → c.range_of-first.result.1 ≤ k → k < 23
+      → spread_at file (get_or c.args.recorded.now i 0) k ≡ 0
+  none-beyond i k lt more few = ⊎_elim
+      (λ known.
+      ap (λ r. spread_at file r k) (c.requires.recorded file before-told i lt)
+      ∙ play-beyond file c.args.position.now c.requires.position c.requires.short
+      (c.requires.lower file before-told) unfinished (roll_at i)
+      (c.requires.played file before-told i lt) k
+      (omega (arith, more, c.range_of-first.ensures.known known)) few)
+      (λ not. absurd (omega (arith, more, few, (c.range_of-first.ensures.unknown not).1)))
+      (passes_or_not c.is_told-is_known.result)
+
+pub sums_of-requires-clause-accepted : goal.sums_of-requires-clause-accepted
+sums_of-requires-clause-accepted g c =
+    accepted g (goal.at.sums_of-requires-clause-accepted g c).After-range_of-first
+
+pub sums_of-requires-clause-before : goal.sums_of-requires-clause-before
+sums_of-requires-clause-before g c =
+    none-before g (goal.at.sums_of-requires-clause-before g c).After-range_of-first
+
+pub sums_of-requires-clause-beyond : goal.sums_of-requires-clause-beyond
+sums_of-requires-clause-beyond g c =
+    none-beyond g (goal.at.sums_of-requires-clause-beyond g c).After-range_of-first
+
+pub returns-in-Some-clause-totals : goal.returns-in-Some-clause-totals
+returns-in-Some-clause-totals g c file told =
+    let here = (goal.at.returns-in-Some-clause-totals g c).After-range_of-first in
+    let now = (c.in_ok-load_plays.ensures {u = tt}).stays.told ∙ told in
+    sums-are file c.args.position.now c.args.recorded.now c.in-Some.sums
+    (unfinished g here file now) (c.requires.recorded file told)
+    ((c.in-Some.ensures {u = tt}).sums file now)

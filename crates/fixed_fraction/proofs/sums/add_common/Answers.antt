@@ -10,9 +10,9 @@ sum_of_shares-requires g c = (
     (
       omega (arith, c.loop-k-test.true, c.requires.few),
       (
-        c.requires.stored c.loop-k.k c.loop-k-test.true,
+        c.requires.stored c.loop-k.k c.if-k-from.true c.loop-k-test.true,
         (
-          omega (arith, c.requires.room c.loop-k.k c.loop-k-test.true),
+          omega (arith, c.requires.room c.loop-k.k c.if-k-from.true c.loop-k-test.true),
           c.law_spreads.ensures.wholes,
         ),
       ),

@@ -8,9 +8,10 @@ use Rattle.fixed_fraction.proofs.sums.add_common.Given as goal
 abbrev pub invariant-loop-k : goal.invariant-loop-k
 invariant-loop-k g l = record {
   len : length l.shares ≡ 23;
-  added : (j : ℕ) → j < l.k → slice_index l.shares j
+  added : (j : ℕ) → l.fn.from ≤ j → j < l.k → slice_index l.shares j
       ≡ slice_index l.fn.shares j + sum_at (map g.S.Distribution.shares l.spreads) l.indices j;
-  small : (j : ℕ) → j < l.k → slice_index l.shares j
+  small : (j : ℕ) → l.fn.from ≤ j → j < l.k → slice_index l.shares j
       ≤ slice_index l.fn.shares j + length l.indices * whole;
+  before : (j : ℕ) → j < l.fn.from → slice_index l.shares j ≡ slice_index l.fn.shares j;
   left : (j : ℕ) → l.k ≤ j → slice_index l.shares j ≡ slice_index l.fn.shares j;
 }

@@ -1,60 +1,67 @@
--- What all plays may have, and the rest.
-use Rattle.std.proofs.Common.{⊎_elim, ◌∙◌, arith, rules}
+-- What is before, what all plays may have, and the rest.
+use Rattle.std.proofs.Common.{◌≡◌, ⊎_elim, ℕ, ◌<◌, List, [], map, get_or, arith, ◌∙◌}
 use Rattle.std.proofs.lemmas.Bool.{cases_lt}
+use Rattle.std.proofs.lemmas.List.{length-map}
+use Rattle.fixed_fraction.specs.Totals.{sum_at}
+use Rattle.fixed_fraction.proofs.RollSums.{sum_at-zero}
+use Rattle.fixed_fraction.proofs.sums.add_plays.Given.{Over}
+use Rattle.fixed_fraction.proofs.sums.add_plays.Goals.{After-add_each-2}
 use Rattle.fixed_fraction.proofs.sums.add_plays.Goals as goal
 
-pub add_common-requires : goal.add_common-requires
-add_common-requires g c = (
-  search rules,
-  (
-    c.requires.indices,
-    (
-      omega (arith, c.least_end-end.ensures.few, c.requires.few),
-      (
-        λ k under j inside. omega (arith, under, c.least_end-end.ensures.least j inside),
-        λ k under.
-            c.requires.room k
-            (omega (arith, under, c.least_end-end.ensures.few, c.requires.few)),
-      ),
-    ),
-  ),
-)
+module _ (g : Over) (c : After-add_each-2 g) where
+  abbrev spreads : List (List ℕ)
+  spreads = map g.S.Distribution.shares c.args.spreads.now
 
-pub add_rest-requires : goal.add_rest-requires
-add_rest-requires g c = (
-  search rules,
-  (
-    c.requires.indices,
-    (
-      c.requires.few,
-      (
-        c.requires.beyond,
-        λ k from few.
-            omega (arith, c.requires.room k few, c.add_common.ensures.beyond k from),
-      ),
-    ),
-  ),
-)
+  -- a share that no play has
+  none : (k : ℕ) → ((i : ℕ) → i < 21 → get_or (get_or spreads i []) k 0 ≡ 0)
+      → sum_at spreads c.args.indices.now k ≡ 0
+  none k =
+      sum_at-zero spreads c.args.indices.now k
+      (length-map c.args.spreads.now g.S.Distribution.shares ∙ c.told-spreads)
 
 pub returns-clause-added : goal.returns-clause-added
 returns-clause-added g c k few = ⊎_elim
-    (λ under. c.add_rest.ensures.before k under ∙ c.add_common.ensures.added k under)
-    (λ past.
+    (λ less.
     omega (
       arith,
-      c.add_rest.ensures.added k past few,
-      c.add_common.ensures.beyond k past,
+      c.add_each-2.ensures.before k (omega (arith, less, c.max-from.ensures, c.max-end.ensures)),
+      c.add_common.ensures.before k (omega (arith, less, c.max-from.ensures)),
+      c.add_each.ensures.before k less,
+      none g c k (λ i inside. c.requires.before i k inside less),
     ))
-    (cases_lt k c.least_end-end.result)
-
-pub returns-clause-small : goal.returns-clause-small
-returns-clause-small g c k few = ⊎_elim
+    (λ from. ⊎_elim
     (λ under.
-    omega (arith, c.add_rest.ensures.before k under, c.add_common.ensures.small k under))
-    (λ past.
     omega (
       arith,
-      c.add_rest.ensures.small k past few,
-      c.add_common.ensures.beyond k past,
+      c.add_each-2.ensures.before k (omega (arith, under, c.max-end.ensures)),
+      c.add_common.ensures.before k under,
+      c.add_each.ensures.added k from under,
     ))
-    (cases_lt k c.least_end-end.result)
+    (λ past. ⊎_elim
+    (λ common.
+    omega (
+      arith,
+      c.add_each-2.ensures.before k common,
+      c.add_common.ensures.added k past common,
+      c.add_each.ensures.beyond k past,
+    ))
+    (λ rest. ⊎_elim
+    (λ last.
+    omega (
+      arith,
+      c.add_each-2.ensures.added k rest last,
+      c.add_common.ensures.beyond k rest,
+      c.add_each.ensures.beyond k past,
+    ))
+    (λ beyond.
+    omega (
+      arith,
+      c.add_each-2.ensures.beyond k beyond,
+      c.add_common.ensures.beyond k rest,
+      c.add_each.ensures.beyond k past,
+      none g c k (λ i inside. c.requires.beyond i k inside beyond),
+    ))
+    (cases_lt k c.args.rolls))
+    (cases_lt k c.max-end.result))
+    (cases_lt k c.max-from.result))
+    (cases_lt k c.args.first)

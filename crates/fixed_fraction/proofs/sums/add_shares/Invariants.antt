@@ -10,5 +10,6 @@ invariant-loop-k g l = record {
   added : (j : ℕ) → l.fn.from ≤ j → j < l.k → slice_index l.shares j
       ≡ slice_index l.fn.shares j + slice_index (g.S.Distribution.shares l.fn.spread) j;
   before : (j : ℕ) → j < l.fn.from → slice_index l.shares j ≡ slice_index l.fn.shares j;
+  beyond : (j : ℕ) → l.fn.to ≤ j → slice_index l.shares j ≡ slice_index l.fn.shares j;
   left : (j : ℕ) → l.k ≤ j → slice_index l.shares j ≡ slice_index l.fn.shares j;
 }

@@ -93,10 +93,17 @@ of-requires g c =
     let small = c.requires.1.1.1.0 in (
       omega (arith, small),
       (
-        c.requires.1.1.1.1.1.1.0,
-        λ i k lt le.
-            ap (λ (xs : List ℕ). get_or xs k 0)
-            (c.loop-index.invariant.spreads_are i (omega (arith, lt, c.loop-index-test.false)))
-            ∙ c.requires.1.1.1.1.1.1.1 i k lt le,
+        omega arith,
+        (
+          c.requires.1.1.1.1.1.1.0,
+          (
+            λ i k lt less. absurd (omega (arith, less)),
+            λ i k lt le.
+                ap (λ (xs : List ℕ). get_or xs k 0)
+                (c.loop-index.invariant.spreads_are i
+                (omega (arith, lt, c.loop-index-test.false)))
+                ∙ c.requires.1.1.1.1.1.1.1 i k lt le,
+          ),
+        ),
       ),
     )

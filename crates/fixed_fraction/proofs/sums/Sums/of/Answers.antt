@@ -29,8 +29,11 @@ add_plays-requires g c = (
     of_rolls
         (1 ∷ 3 ∷ 4 ∷ 6 ∷ 7 ∷ 8 ∷ 10 ∷ 11 ∷ 12 ∷ 13 ∷ 15 ∷ 16 ∷ 17 ∷ 18 ∷ 19 ∷ []) refl,
     (
-      c.requires.few,
-      (c.requires.beyond, λ k few. omega (arith, none k few)),
+      c.requires.order,
+      (
+        c.requires.few,
+        (c.requires.before, (c.requires.beyond, λ k few. omega (arith, none k few))),
+      ),
     ),
   ),
 )
@@ -48,14 +51,20 @@ add_plays-requires-2 g c = (
   (
     of_rolls (0 ∷ 2 ∷ 5 ∷ 9 ∷ 14 ∷ 20 ∷ []) refl,
     (
-      c.requires.few,
+      c.requires.order,
       (
-        c.requires.beyond,
-        λ k few. omega (
-          arith,
-          c.add_plays.ensures.small k few,
-          c.double.ensures.doubled k few,
-          none k few,
+        c.requires.few,
+        (
+          c.requires.before,
+          (
+            c.requires.beyond,
+            λ k few. omega (
+              arith,
+              c.add_plays.ensures.small k few,
+              c.double.ensures.doubled k few,
+              none k few,
+            ),
+          ),
         ),
       ),
     ),
@@ -86,7 +95,6 @@ invariant_of-result g c =
     let shares = c.add_plays-2.new.shares in (
       record {
         len = c.add_plays-2.ensures.len;
-        light = omega arith;
         mean = c.sum_of_means.ensures.bound;
         shares =
             shares-summed shares spreads c.add_plays-2.ensures.len (each g c)

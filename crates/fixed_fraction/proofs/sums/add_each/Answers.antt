@@ -7,9 +7,9 @@ use Rattle.race_model.specs.LocalEquations.{whole}
 use Rattle.fixed_fraction.specs.Totals.{sum_at}
 use Rattle.fixed_fraction.proofs.Shares.{share_at_most_sum}
 use Rattle.fixed_fraction.proofs.RollSums.{sum_at-more}
-use Rattle.fixed_fraction.proofs.sums.add_rest.Given.{Over}
-use Rattle.fixed_fraction.proofs.sums.add_rest.Goals.{After-index-spreads-from}
-use Rattle.fixed_fraction.proofs.sums.add_rest.Goals as goal
+use Rattle.fixed_fraction.proofs.sums.add_each.Given.{Over}
+use Rattle.fixed_fraction.proofs.sums.add_each.Goals.{After-index-spreads-from}
+use Rattle.fixed_fraction.proofs.sums.add_each.Goals as goal
 
 -- the play that comes next
 module _ (g : Over) (c : After-index-spreads-from g) where
@@ -48,11 +48,6 @@ module _ (g : Over) (c : After-index-spreads-from g) where
         at k,
         c.law_spreads.ensures.wholes c.from.result inside,
       )
-
-pub add_shares-requires-clause-beyond : goal.add_shares-requires-clause-beyond
-add_shares-requires-clause-beyond g c k more =
-    let here = (goal.at.add_shares-requires-clause-beyond g c).After-index-spreads-from in
-    at g here k ∙ c.requires.beyond c.from.result k (inside g here) more
 
 pub add_shares-requires-clause-room : goal.add_shares-requires-clause-room
 unfolding whole
@@ -109,4 +104,6 @@ loop-place-preserved g c =
           );
       before = λ k less.
           c.add_shares.ensures.before k less ∙ c.loop-place.invariant.before k less;
+      beyond = λ k past.
+          c.add_shares.ensures.beyond k past ∙ c.loop-place.invariant.beyond k past;
     }
