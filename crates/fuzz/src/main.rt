@@ -7,8 +7,8 @@
 //! of which reads fail, with what they say of it in memory. Of board files it compares what the
 //! checker says of a damaged one with what a plain checker says, records with what a plain program
 //! wants there, and replies with those over a database of the same bound. It prints the seed of
-//! the first difference, and ends with status 1. It rests on `epc_query`, `retrograde`, `certificate`
-//! and `plain_model`; nothing stands on it.
+//! the first difference, and ends with status 1. It rests on `epc_query`, `retrograde`,
+//! `certificate` and `plain_model`; nothing stands on it.
 #![tactic(auto)]
 
 ghost use Rattle.ranking.specs.Tables.{IsRankTable};
