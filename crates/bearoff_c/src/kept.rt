@@ -6,8 +6,8 @@ ghost use Rattle.bearoff_c.specs.Refusals.{open_refusal, refusal_in};
 
 use crate::opened::OpenedFile;
 use crate::statuses::Refusal;
-use epc_query::{Accepted, Board, Database};
 use db_layout::{BOARD_VERSION, BoardHeader};
+use epc_query::{Accepted, Board, Database};
 use ranking::RankTable;
 
 /// A file of any version in bytes that the caller keeps. It is open where `bearoff_open` has

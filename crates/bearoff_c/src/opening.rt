@@ -14,9 +14,9 @@ ghost use Rattle.bearoff_c.specs.Refusals.{open_refusal, status_of};
 use crate::kept::File;
 use crate::lines::put_text;
 use crate::statuses::{OK, fault_status};
-use epc_query::{Accepted, accept};
 use certificate::{CheckFault, check_board, fault_line};
 use db_layout::{BOARD_VERSION, HeaderFault};
+use epc_query::{Accepted, accept};
 use race_model::laws;
 use ranking::RankTable;
 

@@ -5,8 +5,8 @@ ghost use Rattle.race_model.specs.LocalEquations.{whole};
 ghost use Rattle.bearoff_c.specs.Longs.{long_number_of};
 
 use crate::numbers::{Long, LongFraction, RoundedLong};
-use query_text::Number;
 use fixed_fraction::{BoardMean, Scaled, Wide, board_mean_fraction, epc, mean};
+use query_text::Number;
 
 /// A number of rolls that C has in three words.
 pub trait LongMean: Number {

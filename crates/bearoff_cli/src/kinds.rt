@@ -169,7 +169,14 @@ fn run_kept<I: Read, O: Write>(
         FileKind::Board => {
             let header = BoardHeader::new(kept.bound).unwrap();
             let mut board = Board::accepted(bytes, header, &ranks);
-            run_lines(alloc, &mut board, &mut BoardText::new(), input, output, TURNS)
+            run_lines(
+                alloc,
+                &mut board,
+                &mut BoardText::new(),
+                input,
+                output,
+                TURNS,
+            )
         }
     }
 }

@@ -213,7 +213,14 @@ fn report_lines<R: Print + Clock, A: Answers<12288>>(
         let mut reader = lines.as_slice();
         let mut counter = Counter { calls: 0, bytes: 0 };
         let start = Instant::now(rt)?;
-        let told = run_lines(alloc, answers, &mut text, &mut reader, &mut counter, u64::MAX);
+        let told = run_lines(
+            alloc,
+            answers,
+            &mut text,
+            &mut reader,
+            &mut counter,
+            u64::MAX,
+        );
         let taken = start.elapsed(rt)?.as_micros();
         match told {
             Ok(_) => fastest = fastest.min(taken),

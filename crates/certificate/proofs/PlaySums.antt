@@ -1,5 +1,6 @@
 -- The shares that a record tells, as a list.
-use Rattle.std.proofs.Common.{◌≡◌, ◌⊎◌, inl, inr, ⊎_elim, Bool, true, false, IsTrue, ℕ, ◌<◌, ◌≤◌, List, Option, Some, None, IsSome, length, get_or}
+use Rattle.std.proofs.Common.{◌≡◌, ◌⊎◌, inl, inr, ⊎_elim, Bool, true, false, IsTrue, ℕ, ◌<◌, ◌≤◌}
+use Rattle.std.proofs.Common.{List, Option, Some, None, IsSome, length, get_or}
 use Rattle.std.proofs.Common.{refl, sym, subst, ◌∙◌, arith}
 use Rattle.std.proofs.lemmas.Bool.{cases_lt, false≢true}
 use Rattle.std.proofs.lemmas.List.{get_or_past, length-map}

@@ -1,5 +1,6 @@
 //! The check of one record, with records of lower rank that were accepted.
-ghost use Rattle.std.specs.Prelude.{◌≡◌, ℕ, ◌+◌, ◌*◌, ◌<◌, ◌≤◌, List, [], slice_index, slice_index_or, IsTrue, Some, Err};
+ghost use Rattle.std.specs.Prelude.{◌≡◌, ℕ, ◌+◌, ◌*◌, ◌<◌, ◌≤◌, List, [], IsTrue, Some, Err};
+ghost use Rattle.std.specs.Prelude.{slice_index, slice_index_or};
 ghost use Rattle.std.specs.Prelude.{IsErr, IsErrAnd, IfOk, IfErr, OnOk};
 ghost use Rattle.race_model.specs.Positions.{Board, IsPosition, IsFinished, checkers, pips};
 ghost use Rattle.race_model.specs.Dice.{roll_at};

@@ -6,7 +6,8 @@ use Rattle.race_model.specs.BoardFiles.{board_book}
 use Rattle.epc_query.specs.declared.lent_levels.BookLevel.{BookLevel}
 
 -- the level, by its means' numbers, is that of the positions of exactly p pips
-pub record HasLevelIn {N : Type 0} (number : N → ℕ) (b : Book) (p : ℕ) (level : BookLevel N) : Type 0
+pub record HasLevelIn {N : Type 0} (number : N → ℕ) (b : Book) (p : ℕ)
+    (level : BookLevel N) : Type 0
   where
     pub pips : level.pips ≡ p
     pub positions : level.positions ≡ level_count p

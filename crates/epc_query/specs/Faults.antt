@@ -37,7 +37,8 @@ AsksRecords (rank_query x) = ⊥
 abbrev pub IsFaultOfQuery : ℕ → Query → QueryFault → Type 0
 IsFaultOfQuery bound q OverBound = bound < pips (subject q)
 IsFaultOfQuery bound q Finished = (pips (subject q) ≤ bound) × AsksOfFinished q
-IsFaultOfQuery bound q NotLegal = (pips (subject q) ≤ bound) × (¬ AsksOfFinished q) × (¬ HasResult q)
+IsFaultOfQuery bound q NotLegal =
+    (pips (subject q) ≤ bound) × (¬ AsksOfFinished q) × (¬ HasResult q)
 IsFaultOfQuery bound q Memory = IsAnswerable bound q × AsksMoves q
 IsFaultOfQuery bound q Read = IsAnswerable bound q × AsksRecords q
 

@@ -5,8 +5,8 @@
 //! their calls are in `failing_calls`.
 use crate::given::{accepted, answers, database, put};
 use db_reader::Whole;
-use query_text::{Number, Text, put_loss};
 use fixed_fraction::Scaled;
+use query_text::{Number, Text, put_loss};
 use std::test::Fail;
 
 /// Inputs to the database of 8 pips, what is written of each, and how many lines it has.

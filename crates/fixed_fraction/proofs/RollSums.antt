@@ -121,7 +121,8 @@ pub sum_at-zero : (spreads : List (List ℕ)) (indices : List ℕ) (k : ℕ) →
     → ((i : ℕ) → i < 21 → get_or (get_or spreads i []) k 0 ≡ 0) → sum_at spreads indices k ≡ 0
 sum_at-zero spreads indices k len none =
     sum_by-zero (λ i. get_or (get_or spreads i []) k 0) indices (λ i. ⊎_elim (none i)
-    (λ past. ap (λ (xs : List ℕ). get_or xs k 0) (get_or_past spreads i [] (omega (arith, past, len))))
+    (λ past. ap (λ (xs : List ℕ). get_or xs k 0)
+    (get_or_past spreads i [] (omega (arith, past, len))))
     (cases_lt i 21))
 
 -- where no roll leads to a share of exactly k rolls, their sum is none

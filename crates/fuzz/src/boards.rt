@@ -236,7 +236,14 @@ pub(crate) fn compare_lines(
         written: Vec::new(alloc),
         random: Random::new(random.next()),
     };
-    let told = run_lines(alloc, board, &mut BoardText::new(), &mut reader, &mut writer, 1 << 40);
+    let told = run_lines(
+        alloc,
+        board,
+        &mut BoardText::new(),
+        &mut reader,
+        &mut writer,
+        1 << 40,
+    );
     let is_same = writer.written.as_slice() == replies.as_slice();
     Difference::Replies.unless(told.is_ok() && is_same)
 }

@@ -115,7 +115,15 @@ fn compare_opened(
     };
     let mut written = Vec::new(alloc);
     let mut reader = input;
-    let told = run_lines(alloc, &mut database, &mut Text::new(), &mut reader, &mut written, 1 << 40);
+    let mut text = Text::new();
+    let told = run_lines(
+        alloc,
+        &mut database,
+        &mut text,
+        &mut reader,
+        &mut written,
+        1 << 40,
+    );
     Difference::Replies.unless(told.is_ok() && written.as_slice() == replies)
 }
 

@@ -3,7 +3,8 @@ use Rattle.std.proofs.Common.{◌≡◌, sum, ap, ◌∙◌}
 use Rattle.race_model.specs.LocalEquations.{whole}
 use Rattle.certificate.specs.RecordNumbers.{shares_of}
 use Rattle.certificate.proofs.PlaySums.{told_by-same}
-use Rattle.certificate.proofs.play_sums.accepted.Goals.{else-not-is_known-via-then-not-is_known+else-is_none, else-not-is_known-via-else-not-is_known}
+use Rattle.certificate.proofs.play_sums.accepted.Goals.{else-not-is_known-via-then-not-is_known+else-is_none}
+use Rattle.certificate.proofs.play_sums.accepted.Goals.{else-not-is_known-via-else-not-is_known}
 use Rattle.certificate.proofs.play_sums.accepted.Goals as goal
 
 pub returns-clause-shares : goal.returns-clause-shares

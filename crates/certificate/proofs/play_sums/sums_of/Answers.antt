@@ -156,7 +156,8 @@ module _ (g : Over) (c : After-loop-index g) (all : ¬ c.loop-index.index < 21) 
 pub of-requires : goal.of-requires
 of-requires g c =
     let here = (goal.at.of-requires g c).After-loop-index in
-    let all = λ (lt : c.loop-index.index < 21). absurd (omega (arith, lt, c.loop-index-test.false)) in (
+    let all = λ (lt : c.loop-index.index < 21).
+    absurd (omega (arith, lt, c.loop-index-test.false)) in (
       omega arith,
       (
         c.requires.order,
@@ -167,7 +168,8 @@ of-requires g c =
 pub returns-clause-sums : goal.returns-clause-sums
 returns-clause-sums g c file told =
     let here = (goal.at.returns-clause-sums g c).After-loop-index in
-    let all = λ (lt : c.loop-index.index < 21). absurd (omega (arith, lt, c.loop-index-test.false)) in
+    let all = λ (lt : c.loop-index.index < 21).
+    absurd (omega (arith, lt, c.loop-index-test.false)) in
     let plays = c.args.plays.now in
     record {
       means =

@@ -18,7 +18,8 @@ module _ (g : Over) (c : After-range_of-first g) (file : List ℕ)
   before-told = sym (c.in_ok-load_plays.ensures {u = tt}).stays.told ∙ told
 
   unfinished : ¬ IsFinished c.args.position.now
-  unfinished is = absurd (false≢true (sym c.if-is_finished.false ∙ c.is_finished.ensures.value.1 is))
+  unfinished is =
+      absurd (false≢true (sym c.if-is_finished.false ∙ c.is_finished.ensures.value.1 is))
 
   -- each is an accepted record
   accepted : (i : ℕ) → i < 21 → IsAccepted (record_at file (get_or c.args.recorded.now i 0))

@@ -61,7 +61,8 @@ told-same compact p g h (suc k) few same = ⊎_elim
     (λ past.
     ap (λ b. cond b (g (suc k)) 0) (lt-leb (suc k) (most_rolls p) past)
     ∙ sym (ap (λ b. cond b (h (suc k)) 0) (lt-leb (suc k) (most_rolls p) past)))
-    (λ under. ap (λ n. cond (leb (suc k) (most_rolls p)) n 0) (same (suc k) (omega arith) (omega (arith, under))))
+    (λ under. ap (λ n. cond (leb (suc k) (most_rolls p)) n 0)
+    (same (suc k) (omega arith) (omega (arith, under))))
     (cases_lt (most_rolls p) (suc k))
 
 pub returns : goal.returns

@@ -9,7 +9,8 @@ use Rattle.race_model.specs.Versions.{Version, full, compact, version_by, first_
 use Rattle.race_model.specs.ToldShares.{told_share}
 use Rattle.db_layout.specs.StoredShares.{stored_share, share_by}
 use Rattle.db_layout.proofs.stored_shares.StoredShares.at.Goals.{then-self-eq0, else-self-eq0}
-use Rattle.db_layout.proofs.stored_shares.StoredShares.at.Goals.{else-k-eq0-via-then-k-eq0+else-self-eq-COMPACT_VERSION, else-k-eq0-via-else-k-eq0}
+use Rattle.db_layout.proofs.stored_shares.StoredShares.at.Goals.{else-k-eq0-via-then-k-eq0+else-self-eq-COMPACT_VERSION}
+use Rattle.db_layout.proofs.stored_shares.StoredShares.at.Goals.{else-k-eq0-via-else-k-eq0}
 use Rattle.db_layout.proofs.stored_shares.StoredShares.at.Goals as goal
 
 -- a share that is stored is told by itself
