@@ -58,7 +58,8 @@ def run(*words, input=b"", cwd=None, timeout=120, **more):
     words = [str(word) for word in words]
     given = as_bytes(input)
     here = Path(cwd or os.getcwd())
-    is_watched = words[0] in WATCHED and not here.is_relative_to(ROOT)
+    # what is put before its calls may write there
+    is_watched = words[0] in WATCHED and "env" not in more and not here.is_relative_to(ROOT)
     before = standing(here) if is_watched else {}
     try:
         done = subprocess.run(
