@@ -5,7 +5,7 @@ use Rattle.std.specs.Io.KnownBytes.{Appends, Keeps}
 use Rattle.std.proofs.lemmas.List.{append-nil}
 use Rattle.db_layout.specs.Writes.{AppendsPart}
 use Rattle.db_layout.proofs.Known.{appends_kept, appends_twice}
-use Rattle.epc_query.proofs.Held.{appends_same, part_all}
+use Rattle.query_text.proofs.Held.{appends_same, part_all}
 use Rattle.bearoff_cli.proofs.files.write_flushed.Goals as goal
 
 kept : {A E : Type 0} (old mid new : Option (List ℕ)) (bytes : List ℕ) (r : Result A E)
