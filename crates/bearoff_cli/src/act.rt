@@ -508,8 +508,8 @@ fn answer_bytes<I: Read, O: Write>(
 }
 
 /// Answers each line of the input over the database of a table that isn't in memory.
-// a checked table takes 18 KB of stack: inlined, it would add them to the room of its caller; and it
-// is lent to what answers, since a move would copy it
+// a checked table takes 18 KB of stack: inlined, it would add them to the room of its caller; and
+// it is lent to what answers, since a move would copy it
 #[inline(never)]
 fn answer_table<T: Table + Drop, I: Read, O: Write>(
     alloc: Global,
