@@ -5,6 +5,7 @@ import { MOST_FILE_BYTES } from "./kinds.js";
 // Six counts and two dice are bytes in the module.
 const MOST_BYTE = 255;
 const MOST_RANK = 65535;
+const MOST_SHOWN = 100;
 
 // How many characters a text may have that says a position, as a reader or another program has written it: many times as
 // many as any such text. That is looked at before anything else is done with it.
@@ -13,6 +14,14 @@ export const MOST_TEXT = 1000;
 // Whether a text has more. Its length alone counts some characters twice.
 export const isTooLong = (text) =>
     text.length > MOST_TEXT && (text.length > 2 * MOST_TEXT || [...text].length > MOST_TEXT);
+
+export const printable = (text) => text.replace(/[^ -~]/gu, "?");
+
+// What a refusal shows of a text, on one line.
+export function shown(text) {
+    const line = printable(text.slice(0, 2 * MOST_TEXT).replace(/[ \t\r\n\u00a0]+/gu, " ").replace(/^ | $/gu, ""));
+    return line.length <= MOST_SHOWN ? line : `${line.slice(0, MOST_SHOWN)}...`;
+}
 
 const isList = (value) => Array.isArray(value) || (ArrayBuffer.isView(value) && !(value instanceof DataView));
 

@@ -1,6 +1,6 @@
 // What a caller may hand over in place of lists: a text of a position, a roll or a play, and what a call has answered. Each
 // is read into a list, which the calls of a database take.
-import { isTooLong, readPosition, readRoll } from "./checks.js";
+import { isTooLong, readPosition, readRoll, shown } from "./checks.js";
 import { read } from "./notation.js";
 
 const ROLL = /^[ \t\r\n\u00a0]*([0-9])[ \t\r\n\u00a0]*[-,]?[ \t\r\n\u00a0]*([0-9])[ \t\r\n\u00a0]*$/;
@@ -21,7 +21,9 @@ export function positionOf(value) {
 export function sidesOf(mine, theirs) {
     if (theirs !== undefined && theirs !== null) return [positionOf(mine), positionOf(theirs)];
     const race = typeof mine === "string" ? read(mine) : mine;
-    if (!has(race, "theirs") || race.theirs === null) throw new TypeError("the position of the other player isn't told");
+    if (!has(race, "theirs") || race.theirs === null) {
+        throw new TypeError("the position of the other player isn't told, by a second one or an XGID");
+    }
     return [positionOf(race), positionOf(race.theirs)];
 }
 
@@ -29,12 +31,12 @@ export function sidesOf(mine, theirs) {
 export function rollOf(value) {
     if (typeof value === "string") {
         const [, one, other] = (!isTooLong(value) && ROLL.exec(value)) || [];
-        if (one === undefined) throw new TypeError("a roll is two dice, as in 21 or 2-1, and not another text");
+        if (one === undefined) throw new TypeError(`a roll is two dice, as in 21 or 2-1, and not ${shown(value)}`);
         return [Number(one), Number(other)];
     }
     if (typeof value !== "number") return readRoll(value);
     if (!Number.isInteger(value) || value < 10 || value > 99) {
-        throw new RangeError(`a roll is two dice, as in 21, and not ${value}`);
+        throw new RangeError(`a roll is two dice, as in 21 or 2-1, and not ${value}`);
     }
     return [Math.floor(value / 10), value % 10];
 }
@@ -51,7 +53,7 @@ export function targetOf(counts, value) {
         let from = Number(source);
         for (const stop of stops.slice(1).toLowerCase().split("/")) {
             const to = stop === "off" ? 0 : Number(stop);
-            if (to >= from) throw new RangeError(`no checker moves so: ${value}`);
+            if (to >= from) throw new RangeError(`no checker moves so: ${shown(value)}`);
             board[from] -= Number(times);
             board[to] += Number(times);
             from = to;
@@ -59,7 +61,7 @@ export function targetOf(counts, value) {
     }
     // they may be told in another order than that in which they can be made
     const point = board.findIndex((count) => count < 0);
-    if (point >= 0) throw new RangeError(`there is no checker on point ${point} for ${value}`);
+    if (point >= 0) throw new RangeError(`there is no checker on point ${point} for ${shown(value)}`);
     return board.slice(1);
 }
 

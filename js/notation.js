@@ -1,6 +1,6 @@
 // Positions as players have them: XGIDs, the IDs of GNU Backgammon, and six counts in any usual spelling. What each
 // call takes and answers stands in notation.d.ts. Nothing here needs the WebAssembly module.
-import { isTooLong, MOST_TEXT, readPosition, readRoll } from "./checks.js";
+import { isTooLong, MOST_TEXT, printable, readPosition, readRoll, shown } from "./checks.js";
 import { BearoffError } from "./errors.js";
 
 export { BearoffError };
@@ -13,16 +13,13 @@ export class NoRaceError extends BearoffError {
 
 const GAP = "[ \\t\\r\\n\\u00a0]";
 const MOST_CHECKERS = 15;
-const MOST_SHOWN = 100;
 const POINTS = 24;
 const ME = "the player on roll";
 const OTHER = "the other player";
 
 const whole = (pattern) => new RegExp(`^(?:${pattern})$`, "u");
-const GAPS = new RegExp(`${GAP}+`, "gu");
 
 const lengthOf = (text) => [...text].length;
-const printable = (text) => text.replace(/[^ -~]/gu, "?");
 const sum = (counts) => counts.reduce((all, count) => all + count, 0);
 
 // A text without the spaces at its ends.
@@ -44,9 +41,8 @@ function bareOf(text) {
 
 // Throws the error, with what can be shown of a text on one line.
 function refuse(code, what, text) {
-    const shown = printable(stripped(text).replace(GAPS, " "));
-    const short = shown.length <= MOST_SHOWN ? shown : `${shown.slice(0, MOST_SHOWN)}...`;
-    throw new NoRaceError(code, short ? `${printable(what)}: ${short}` : printable(what));
+    const line = shown(text);
+    throw new NoRaceError(code, line ? `${printable(what)}: ${line}` : printable(what));
 }
 
 const COUNTS = whole(`[\\[({]?(?:[\\-+.,;/0-9]|${GAP})+[\\])}]?`);

@@ -516,7 +516,7 @@ class Database:
         that begins with ``error``.
         """
         if not isinstance(line, str):
-            raise BadArgument(f"not a line: {shown(line)}")
+            raise BadArgument(f"not a line, which is a text as in mean 0,0,0,0,0,1: {shown(line)}")
         opened = self._opened
         # no query has a character beyond ASCII, nor a question mark
         asked = line.encode("ascii", "replace")
@@ -591,7 +591,7 @@ def _index_of(rank: Any) -> int:
     try:
         return index(rank)
     except TypeError:
-        raise BadArgument(f"not a rank: {shown(rank)}") from None
+        raise BadArgument(f"not a rank, which is a whole number: {shown(rank)}") from None
 
 
 def _places(ranks: slice, length: int) -> range:
@@ -599,7 +599,7 @@ def _places(ranks: slice, length: int) -> range:
     try:
         return range(*ranks.indices(length))
     except (TypeError, ValueError):
-        raise BadArgument(f"no ranks: {shown(ranks)}") from None
+        raise BadArgument(f"not ranks, which are whole numbers: {shown(ranks)}") from None
 
 
 def _no_rank(number: int, position: Any) -> BearoffError:

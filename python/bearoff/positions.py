@@ -31,6 +31,9 @@ _BLANKS = "[ \t\r\n\u00a0]*"
 _COUNT = f"{_BLANKS}(0|[1-9][0-9]{{0,2}}){_BLANKS}"
 _TEXT = re.compile(",".join([_COUNT] * 6))
 _ROLL = re.compile(f"{_BLANKS}([0-9]){_BLANKS}[-,]?{_BLANKS}([0-9]){_BLANKS}")
+# what a message says is wanted
+_A_POSITION = "a position, which is six counts as in 0,0,0,0,0,1"
+_A_ROLL = "a roll of two dice, as in 21 or 2-1"
 
 
 class Position(NamedTuple):
@@ -52,7 +55,7 @@ class Position(NamedTuple):
         """
         counts = _match(_TEXT, text) if isinstance(text, str) else None
         if not counts:
-            raise BadArgument(f"not a position: {shown(text)}")
+            raise BadArgument(f"not {_A_POSITION}: {shown(text)}")
         return cls._make(map(int, counts.groups()))
 
     def __str__(self) -> str:
@@ -240,9 +243,9 @@ def position_of(position: AnyPosition) -> Position:
         from .notation import read
 
         return read(position).mine
-    counts = _numbers(position, 6, "a position")
+    counts = _numbers(position, 6, _A_POSITION)
     if not all(0 <= count <= _MOST_COUNT for count in counts):
-        raise BadArgument(f"not a position: {shown(position)}")
+        raise BadArgument(f"not {_A_POSITION}: {shown(position)}")
     return Position._make(counts)
 
 
@@ -257,7 +260,9 @@ def sides_of(
 
         mine = read(mine)
     if not isinstance(mine, Race) or mine.theirs is None:
-        raise BadArgument(f"the position of the other player isn't told: {shown(mine)}")
+        raise BadArgument(
+            f"the position of the other player isn't told, by a second one or an XGID: {shown(mine)}"
+        )
     return mine.mine, mine.theirs
 
 
@@ -291,16 +296,14 @@ def dice_of(roll: AnyRoll) -> Tuple[int, int]:
     if isinstance(roll, str):
         digits = _match(_ROLL, roll)
         if not digits:
-            raise BadArgument(f"not a roll of two dice: {shown(roll)}")
+            raise BadArgument(f"not {_A_ROLL}: {shown(roll)}")
         return int(digits[1]), int(digits[2])
     if hasattr(roll, "__index__") and not hasattr(roll, "__len__"):
-        both = number_of(roll, "a roll of two dice")
+        both = number_of(roll, _A_ROLL)
         if not 10 <= both <= 99:
-            raise BadArgument(f"not a roll of two dice: {shown(roll)}")
+            raise BadArgument(f"not {_A_ROLL}: {shown(roll)}")
         return both // 10, both % 10
-    one, other = (
-        die if 0 <= die <= _BYTE else 0 for die in _numbers(roll, 2, "a roll of two dice")
-    )
+    one, other = (die if 0 <= die <= _BYTE else 0 for die in _numbers(roll, 2, _A_ROLL))
     return one, other
 
 

@@ -93,7 +93,11 @@ class Commands(unittest.TestCase):
                 2,
                 "bearoff: a roll is wanted behind the position, as in 21\n",
             ),
-            (("play", "0,0,0,0,0,1", "7"), 2, "bearoff: not a roll of two dice: '7'\n"),
+            (
+                ("play", "0,0,0,0,0,1", "7"),
+                2,
+                "bearoff: not a roll of two dice, as in 21 or 2-1: '7'\n",
+            ),
             (("wins", MINE), 2, "bearoff: the position of the other player isn't told"),
             (("play", "0,0,0,0,0,1", "77"), 3, "bearoff: a die is not 1 to 6"),
             (("play", "0,0,0,0,0,0", "21"), 3, "bearoff: no checker is left"),
