@@ -92,8 +92,6 @@ export async function wrong(): Promise<void> {
     mean.thousandths = 1;
     // @ts-expect-error a share has no thousandths
     void share?.thousandths;
-    // @ts-expect-error a text
-    database.mean("0,0,0,0,0,1");
     // @ts-expect-error a text among counts
     database.epc([0, 0, 0, 0, 0, "1"]);
     // @ts-expect-error nothing
@@ -102,8 +100,8 @@ export async function wrong(): Promise<void> {
     database.rank([0n, 0n, 0n, 0n, 0n, 1n]);
     // @ts-expect-error three dice
     database.play(six, [2, 1, 1]);
-    // @ts-expect-error a roll of digits
-    database.moves(six, "21");
+    // @ts-expect-error a roll that is neither
+    database.moves(six, true);
     // @ts-expect-error no roll
     database.play(six);
     // @ts-expect-error a rank that is a text
