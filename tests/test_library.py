@@ -67,8 +67,7 @@ CALLER_WORDS = {
     "rooms": ("cc", ["-std=c11"], "rooms.c", STATIC),
     "order": ("cc", ["-std=c11", *SANITIZED], "order.c", STATIC),
     "largest": ("cc", ["-std=c11"], "largest.c", STATIC),
-    "boards": ("cc", ["-std=c11"], "boards.c", STATIC),
-    "boards_asan": ("cc", ["-std=c11", *SANITIZED], "boards.c", STATIC),
+    "lines_asan": ("cc", ["-std=c11", *SANITIZED], "lines.c", [*STATIC, "-lpthread"]),
     "files_c": ("cc", ["-std=c11"], "files.c", [*STATIC, "-lpthread"]),
     "files_cpp": ("c++", AS_CPP, "files.c", ["-x", "none", *STATIC, "-lpthread"]),
     "files_asan": ("cc", ["-std=c11", *SANITIZED], "files.c", [*STATIC, "-lpthread"]),
@@ -247,11 +246,8 @@ class TestOrderOfRefusals:
         assert wrong == []
 
     @pytest.mark.parametrize("kind", ["database", "board"])
-    def test_lines(self, program, caller, built, room, kind):
-        words = ["query", built(8)]
-        if kind == "board":
-            succeed(caller("boards"), 8, "board.db", input="mean 0,0,0,0,0,1")
-            words = ["query", "--board", "board.db"]
+    def test_lines(self, program, built, board, kind):
+        words = ["query", "--board", board(8)] if kind == "board" else ["query", built(8)]
         asked = [
             (form.format(**row._asdict()), (row.faults or ["none"])[0])
             for row in ROWS
@@ -454,17 +450,16 @@ def test_board_room():
     assert f"{BOARDS[90][0]:,}" in header
 
 
-@pytest.mark.parametrize("bound", [8, 90])
-@pytest.mark.parametrize("name", ["boards", "boards_asan"])
-def test_boards(caller, room, name, bound):
+@pytest.mark.parametrize("words", [[], ["2"], ["--text"]], ids=["calls", "threads", "text"])
+def test_board(caller, room, words):
     """A board file that was built in a room has the bytes that were computed outside, and its
     lines the replies."""
-    rows = (HERE / "board_rows.txt").read_text().splitlines(keepends=True)
-    asked = "".join(rows[::2]) if bound == 90 else "mean 0,0,0,0,0,1\n"
-    replies = "".join(rows[1::2]) if bound == 90 else "mean 5/4 epc 245/24 10.208\n"
-    expect(run(caller(name), bound, "built.db", input=asked.encode(), timeout=600), 0, replies)
-    data = Path("built.db").read_bytes()
-    assert (len(data), hashlib.sha256(data).hexdigest()) == BOARDS[bound]
+    data = succeed(caller("builds"), "board", 90, 0)
+    assert (len(data), hashlib.sha256(data).hexdigest()) == BOARDS[90]
+    Path("board.db").write_bytes(data)
+    rows = (HERE / "board_rows.txt").read_bytes().splitlines(keepends=True)
+    done = run(caller("lines_asan"), "board.db", *words, input=b"".join(rows[::2]), timeout=600)
+    expect(done, 0, b"".join(rows[1::2]))
 
 
 @pytest.mark.parametrize(

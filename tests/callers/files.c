@@ -177,6 +177,12 @@ static void ask_tables(void) {
                bearoff_listed_distributions(&file, 0, shares, count) == BEAROFF_OK,
            "the tables", (long)count);
     expect(positions[count].points[0] == MARK, "behind the table", (long)count);
+    /* a part of one, which ends with it */
+    bearoff_number last[2];
+    expect(
+        count < 2 || (bearoff_listed_means(&file, (uint16_t)(count - 2), last, 2) == BEAROFF_OK &&
+                      !memcmp(last, &means[count - 2], sizeof last)),
+        "the end of a table", (long)count);
     expect(bearoff_listed_positions(&file, 1, positions, count) == BEAROFF_NO_RANK &&
                bearoff_listed_means(&file, 1, means, count) == BEAROFF_NO_RANK &&
                bearoff_listed_epcs(&file, 1, epcs, count) == BEAROFF_NO_RANK &&
@@ -225,8 +231,9 @@ static void *ask_all(void *nothing) {
     return nothing;
 }
 
-/* each call of a file that is not open, which leaves alone what is lent */
-static void try_closed(void) {
+/* each call about a position that is refused, and of a file that is not open each other call, too;
+ * what is lent stays as it was */
+static void try_refused(bearoff_position at, uint32_t status) {
     static struct {
         bearoff_facts about;
         bearoff_position at;
@@ -242,32 +249,32 @@ static void try_closed(void) {
         uint16_t rank;
         size_t count;
     } lent;
-    bearoff_position none = {{0}};
     const uint8_t *marks = (const uint8_t *)&lent;
     memset(&lent, MARK, sizeof lent);
-    uint32_t told[] = {
-        bearoff_about(&file, &lent.about),
-        bearoff_rank(&file, &none, &lent.rank),
-        bearoff_position_of(&file, 0, &lent.at),
-        bearoff_mean(&file, &none, &lent.mean),
-        bearoff_rounded_mean(&file, &none, &lent.rolls),
-        bearoff_epc(&file, &none, &lent.pips),
-        bearoff_wastage(&file, &none, &lent.wasted),
-        bearoff_distribution(&file, &none, &lent.shares),
-        bearoff_within(&file, &none, 1, &lent.chance),
-        bearoff_play(&file, &none, 2, 1, &lent.play),
-        bearoff_loss(&file, &none, 2, 1, &none, &lent.loss),
-        bearoff_moves(&file, &none, 2, 1, lent.results, 2, &lent.count),
-        bearoff_answer_line(&file, (const uint8_t *)"", 0, (uint8_t *)lent.results, 100,
-                            &lent.count),
-        bearoff_listed_positions(&file, 0, &lent.at, 1),
-        bearoff_listed_means(&file, 0, &lent.mean, 1),
-        bearoff_listed_epcs(&file, 0, &lent.pips, 1),
-        bearoff_listed_distributions(&file, 0, &lent.shares, 1),
+    const uint32_t told[] = {
+        bearoff_rank(&file, &at, &lent.rank),
+        bearoff_mean(&file, &at, &lent.mean),
+        bearoff_rounded_mean(&file, &at, &lent.rolls),
+        bearoff_epc(&file, &at, &lent.pips),
+        bearoff_wastage(&file, &at, &lent.wasted),
+        bearoff_distribution(&file, &at, &lent.shares),
+        bearoff_within(&file, &at, 1, &lent.chance),
+        bearoff_play(&file, &at, 2, 1, &lent.play),
+        bearoff_loss(&file, &at, 2, 1, &at, &lent.loss),
+        bearoff_moves(&file, &at, 2, 1, lent.results, 2, &lent.count),
+        file.is_open ? status : bearoff_about(&file, &lent.about),
+        file.is_open ? status : bearoff_position_of(&file, 0, &lent.at),
+        file.is_open ? status
+                     : bearoff_answer_line(&file, (const uint8_t *)"", 0, (uint8_t *)lent.results,
+                                           100, &lent.count),
+        file.is_open ? status : bearoff_listed_positions(&file, 0, &lent.at, 1),
+        file.is_open ? status : bearoff_listed_means(&file, 0, &lent.mean, 1),
+        file.is_open ? status : bearoff_listed_epcs(&file, 0, &lent.pips, 1),
+        file.is_open ? status : bearoff_listed_distributions(&file, 0, &lent.shares, 1),
     };
     for (size_t i = 0; i < sizeof told / sizeof *told; i++)
-        expect(told[i] == BEAROFF_NOT_OPEN, "not open", (long)i);
-    expect(!memcmp(marks, marks + 1, sizeof lent - 1), "left alone", 0);
+        expect(told[i] == status, "refused", (long)i);
+    expect(!memcmp(marks, marks + 1, sizeof lent - 1), "left alone", status);
 }
 
 /* the status of an opening, its line and its struct */
@@ -373,6 +380,8 @@ static void try_changed(void) {
 }
 
 int main(int count, char **words) {
+    const bearoff_position none = {{0}}, many = {{0, 0, 0, 0, 0, 16}},
+                           most = {{0, 0, 0, 0, 0, 15}};
     pthread_attr_t attributes;
     pthread_t thread;
     FILE *from = count == 3 ? fopen(words[1], "rb") : NULL;
@@ -380,15 +389,17 @@ int main(int count, char **words) {
     if (!length || (step = atoi(words[2])) < 1) return 2;
     fclose(from);
     is_board = bytes[9] == 3;
-    try_closed();
+    try_refused(none, BEAROFF_NOT_OPEN);
     try_openings();
-    try_closed();
+    try_refused(none, BEAROFF_NOT_OPEN);
     expect(open_front(length) == BEAROFF_OK, "the file", 0);
     expect(bearoff_about(&file, &about) == BEAROFF_OK, "about", 0);
     expect(about.version == bytes[9] && about.bound == bytes[11] &&
                about.positions == (uint32_t)(bytes[14] << 8 | bytes[15]) &&
                about.rolls == (is_board ? 33 : 22),
            "what it says of itself", about.version);
+    try_refused(many, BEAROFF_TOO_MANY);
+    if (about.bound < 90) try_refused(most, BEAROFF_OVER_BOUND);
     pthread_attr_init(&attributes);
     if (pthread_attr_setstacksize(&attributes, STACK) ||
         pthread_create(&thread, &attributes, ask_all, NULL) || pthread_join(thread, NULL))

@@ -1,7 +1,6 @@
 /*
  * Answers lines as `bearoff query FILE` does, by way of the library: its replies are compared with
- * the program's. What other calls say of the same position, and whole tables, have to agree with
- * what is answered.
+ * the program's. What other calls say of the same position has to agree with what is answered.
  *
  * usage: lines FILE [THREADS] <lines    with THREADS, as many threads answer all lines, over a
  *                                       database each, and it fails where their replies differ
@@ -24,7 +23,9 @@
 
 #include "bearoff.h"
 
-typedef unsigned __int128 number;
+/* the file as it is opened at first, and what it says of itself */
+static bearoff_file opened;
+static bearoff_facts facts;
 
 static const char *fault_words(uint32_t status) {
     switch (status) {
@@ -69,36 +70,81 @@ static void put(text *to, const char *form, ...) {
     }
 }
 
-/* a number of a database, which has two words */
-static number value(bearoff_number of) {
-    if (of.words[0]) fail("a number of three words");
-    return ((number)of.words[1] << 64) + of.words[2];
-}
-
-static number whole(void) {
-    number w = 1;
-    for (int i = 0; i < 22; i++) w *= 36;
-    return w;
-}
-
-static void put_number(text *to, number n) {
-    char digits[40];
-    int first = 40;
-    do digits[--first] = (char)('0' + (int)(n % 10));
-    while (n /= 10);
-    put(to, "%.*s", 40 - first, digits + first);
-}
-
-static void put_fraction(text *to, number n, number d) {
-    number a = n, b = d;
-    while (b) {
-        number rest = a % b;
-        a = b;
-        b = rest;
+/* a number times another one, and one more */
+static bearoff_number times(bearoff_number of, uint32_t factor, uint64_t more) {
+    for (int word = 2; word >= 0; word--) {
+        unsigned __int128 product = (unsigned __int128)of.words[word] * factor + more;
+        of.words[word] = (uint64_t)product;
+        more = (uint64_t)(product >> 64);
     }
-    put_number(to, n / a);
+    return of;
+}
+
+/* what is left of a number that is divided */
+static uint32_t divide(bearoff_number *of, uint32_t by) {
+    uint64_t rest = 0;
+    for (int word = 0; word < 3; word++) {
+        unsigned __int128 part = (unsigned __int128)rest << 64 | of->words[word];
+        of->words[word] = (uint64_t)(part / by);
+        rest = (uint64_t)(part % by);
+    }
+    return (uint32_t)rest;
+}
+
+static bearoff_number sum_of(bearoff_number one, bearoff_number other) {
+    uint64_t carry = 0;
+    for (int word = 2; word >= 0; word--) {
+        unsigned __int128 sum = (unsigned __int128)one.words[word] + other.words[word] + carry;
+        one.words[word] = (uint64_t)sum;
+        carry = (uint64_t)(sum >> 64);
+    }
+    return one;
+}
+
+static int is_none(bearoff_number of) { return !(of.words[0] | of.words[1] | of.words[2]); }
+
+static int is_less(bearoff_number one, bearoff_number other) {
+    int word = 0;
+    while (word < 2 && one.words[word] == other.words[word]) word++;
+    return one.words[word] < other.words[word];
+}
+
+static int same_number(bearoff_number one, bearoff_number other) {
+    return !memcmp(&one, &other, sizeof one);
+}
+
+/* 36 to the power of the most rolls, over which each number of a file is */
+static bearoff_number whole(void) {
+    bearoff_number power = {{0, 0, 1}};
+    for (int k = 0; k < facts.rolls; k++) power = times(power, 36, 0);
+    return power;
+}
+
+/* a number over the whole in lowest terms: no prime but 2 and 3 divides that */
+static bearoff_fraction over_whole(bearoff_number of) {
+    bearoff_fraction fraction = {of, whole()};
+    for (uint32_t prime = 2; prime <= 3; prime++) {
+        for (;;) {
+            bearoff_fraction less = fraction;
+            if (divide(&less.numerator, prime) || divide(&less.denominator, prime)) break;
+            fraction = less;
+        }
+    }
+    return fraction;
+}
+
+static void put_number(text *to, bearoff_number of) {
+    char digits[64];
+    int first = 64;
+    do digits[--first] = (char)('0' + (int)divide(&of, 10));
+    while (!is_none(of));
+    put(to, "%.*s", 64 - first, digits + first);
+}
+
+static void put_fraction(text *to, bearoff_fraction fraction) {
+    put_number(to, fraction.numerator);
     put(to, "/");
-    put_number(to, d / a);
+    put_number(to, fraction.denominator);
 }
 
 static void put_position(text *to, bearoff_position at) {
@@ -124,46 +170,33 @@ static int read_roll(const char **from, uint8_t *one, uint8_t *other) {
     return 1;
 }
 
-static void put_loss(text *to, bearoff_fraction loss) {
-    put_number(to, value(loss.numerator));
-    put(to, "/");
-    put_number(to, value(loss.denominator));
-}
-
 static void put_thousandths(text *to, uint64_t thousandths) {
     put(to, "%lu.%03lu", (unsigned long)(thousandths / 1000), (unsigned long)(thousandths % 1000));
 }
 
-/* a fraction of at most a million in thousandths, a half up, with a denominator of at most 6 *
- * 36^22 */
-static uint64_t rounded(number n, number d) {
-    number rest = n % d * 1000, half = d / 2;
-    return (uint64_t)(n / d * 1000 + rest / d + (rest % d >= d - half));
+/* whether a number over the whole comes to so many thousandths, a half up */
+static int is_rounded(bearoff_number of, uint64_t thousandths) {
+    bearoff_number twice = times(of, 2000, 0);
+    uint32_t above = (uint32_t)(2 * thousandths + 1);
+    return is_less(twice, times(whole(), above, 0)) &&
+           (!thousandths || !is_less(twice, times(whole(), above - 2, 0)));
 }
 
 static int same_position(bearoff_position one, bearoff_position other) {
     return !memcmp(&one, &other, sizeof one);
 }
 
-/* the mean of a position as a fraction and rounded, and its wastage, beside its numerator and
- * effective pip count */
-static void check_rounded(const bearoff_file *database, bearoff_position at, bearoff_number mean,
-                          bearoff_rounded pips) {
+/* the mean of a position as a fraction and rounded, and where it stands */
+static void check_mean(const bearoff_file *database, bearoff_position at, bearoff_number mean) {
     bearoff_rounded rolls;
-    bearoff_wasted wasted;
     bearoff_stand stand;
-    uint64_t told;
-    if (bearoff_rounded_mean(database, &at, &rolls) || bearoff_wastage(database, &at, &wasted) ||
-        bearoff_standing(&at, &stand)) {
+    if (bearoff_rounded_mean(database, &at, &rolls) || bearoff_standing(&at, &stand))
         fail("a mean that is told once is not told again");
-    }
-    number n = value(rolls.exact.numerator), d = value(rolls.exact.denominator);
-    if (n * (whole() / d) != value(mean) || rolls.thousandths != rounded(n, d))
+    bearoff_fraction exact = over_whole(mean);
+    if (!same_number(rolls.exact.numerator, exact.numerator) ||
+        !same_number(rolls.exact.denominator, exact.denominator) ||
+        !is_rounded(mean, rolls.thousandths))
         fail("a rounded mean");
-    if (!bearoff_thousandths(&rolls.exact, &told) || told != rolls.thousandths)
-        fail("thousandths of a mean");
-    if (!bearoff_thousandths(&pips.exact, &told) || told != pips.thousandths)
-        fail("thousandths of pips");
     unsigned all = 0, checkers = 0;
     for (unsigned point = 1; point <= 6; point++) {
         all += point * at.points[point - 1];
@@ -171,20 +204,17 @@ static void check_rounded(const bearoff_file *database, bearoff_position at, bea
     }
     if (stand.pips != all || stand.checkers != checkers || stand.off != 15 - checkers)
         fail("where it stands");
-    int is_below = pips.thousandths < 1000 * all;
-    uint64_t apart = is_below ? 1000 * all - pips.thousandths : pips.thousandths - 1000 * all;
-    if (wasted.is_below != is_below || wasted.thousandths != apart) fail("a wastage");
 }
 
 /* the chances to be off within so many rolls, beside the shares */
 static void check_within(const bearoff_file *database, bearoff_position at,
                          bearoff_shares shares) {
-    number total = 0;
+    bearoff_number total = {{0}};
     for (int rolls = 0; rolls < 256; rolls++) {
         bearoff_chance told;
-        if (rolls < 34) total += value(shares.shares[rolls]);
+        if (rolls < 34) total = sum_of(total, shares.shares[rolls]);
         if (bearoff_within(database, &at, (uint8_t)rolls, &told) ||
-            value(told.numerator) != total || told.thousandths != rounded(total, whole()))
+            !same_number(told.numerator, total) || !is_rounded(total, told.thousandths))
             fail("within");
     }
 }
@@ -219,11 +249,11 @@ static void answer(const bearoff_file *database, const char *line, text *reply) 
         status = bearoff_mean(database, &at, &mean);
         if (!status) status = bearoff_epc(database, &at, &pips);
         if (!status) {
-            check_rounded(database, at, mean, pips);
+            check_mean(database, at, mean);
             put(reply, "mean ");
-            put_fraction(reply, value(mean), whole());
+            put_fraction(reply, over_whole(mean));
             put(reply, " epc ");
-            put_loss(reply, pips.exact);
+            put_fraction(reply, pips.exact);
             put(reply, " ");
             put_thousandths(reply, pips.thousandths);
         }
@@ -238,9 +268,9 @@ static void answer(const bearoff_file *database, const char *line, text *reply) 
             check_within(database, at, shares);
             put(reply, "dist");
             for (int k = 0; k < 34; k++) {
-                if (!value(shares.shares[k])) continue;
+                if (is_none(shares.shares[k])) continue;
                 put(reply, " %d:", k);
-                put_fraction(reply, value(shares.shares[k]), whole());
+                put_fraction(reply, over_whole(shares.shares[k]));
             }
         }
     } else if (!strcmp(word, "play") && read_roll(&rest, &one, &other)) {
@@ -273,7 +303,7 @@ static void answer(const bearoff_file *database, const char *line, text *reply) 
         if (!status) {
             check_play_to(at, one, other, to);
             put(reply, "loss ");
-            put_loss(reply, loss);
+            put_fraction(reply, loss);
         }
     } else if (!strcmp(word, "moves") && read_roll(&rest, &one, &other)) {
         static const size_t room = BEAROFF_RESULTS;
@@ -288,7 +318,7 @@ static void answer(const bearoff_file *database, const char *line, text *reply) 
                 put(reply, " ");
                 put_position(reply, results[i].to);
                 put(reply, ":");
-                put_loss(reply, results[i].loss);
+                put_fraction(reply, results[i].loss);
             }
         }
         free(results);
@@ -348,56 +378,11 @@ static void open_it(bearoff_file *database) {
     }
 }
 
-static void *room_of(size_t count, size_t size) {
-    void *room = calloc(count, size);
-    if (!room) fail("memory");
-    return room;
-}
-
-/* whole tables, from a rank on, beside the single calls for each position */
-static void check_tables(const bearoff_file *database, uint16_t first) {
-    bearoff_facts about;
-    if (bearoff_about(database, &about)) fail("about");
-    size_t count = about.positions - first;
-    bearoff_position *positions = (bearoff_position *)room_of(count, sizeof *positions);
-    bearoff_number *means = (bearoff_number *)room_of(count, sizeof *means);
-    bearoff_rounded *epcs = (bearoff_rounded *)room_of(count, sizeof *epcs);
-    bearoff_shares *distributions = (bearoff_shares *)room_of(count, sizeof *distributions);
-    if (bearoff_listed_positions(database, first, positions, count) ||
-        bearoff_listed_means(database, first, means, count) ||
-        bearoff_listed_epcs(database, first, epcs, count) ||
-        bearoff_listed_distributions(database, first, distributions, count)) {
-        fail("a table");
-    }
-    for (size_t i = 0; i < count; i++) {
-        bearoff_position at;
-        bearoff_number mean;
-        bearoff_rounded pips;
-        bearoff_shares shares;
-        uint16_t rank;
-        if (bearoff_position_of(database, (uint16_t)(first + i), &at) ||
-            bearoff_rank(database, &at, &rank) || bearoff_mean(database, &at, &mean) ||
-            bearoff_epc(database, &at, &pips) || bearoff_distribution(database, &at, &shares)) {
-            fail("a call for a position of a table");
-        }
-        if (rank != first + i || !same_position(at, positions[i])) fail("a position of a table");
-        if (memcmp(&mean, &means[i], sizeof mean)) fail("a mean of a table");
-        if (memcmp(&pips, &epcs[i], sizeof pips)) fail("an effective pip count of a table");
-        if (memcmp(&shares, &distributions[i], sizeof shares)) fail("a distribution of a table");
-    }
-    free(positions);
-    free(means);
-    free(epcs);
-    free(distributions);
-}
-
 static void *answer_all(void *to) {
     text *replies = (text *)to;
     bearoff_file *database = (bearoff_file *)calloc(1, sizeof *database);
     if (!database) fail("memory");
     open_it(database);
-    check_tables(database, 0);
-    check_tables(database, 37);
     replies->room = 1 << 16;
     replies->bytes = (char *)malloc(replies->room);
     if (!replies->bytes) fail("memory");
@@ -408,39 +393,16 @@ static void *answer_all(void *to) {
 }
 
 static void answer_by_text(void) {
-    static bearoff_file database;
     text replies = {0, 0, 0};
-    open_it(&database);
     const char *end = lines.bytes + lines.length;
     for (const char *line = lines.bytes; line < end;) {
         const char *feed = (const char *)memchr(line, '\n', (size_t)(end - line));
         if (!feed) fail("no line feed at the end");
-        answer_line(&database, line, (size_t)(feed - line), &replies);
+        answer_line(&opened, line, (size_t)(feed - line), &replies);
         line = feed + 1;
     }
     if (fwrite(replies.bytes, 1, replies.length, stdout) != replies.length) fail("write");
     free(replies.bytes);
-}
-
-/* the position of each rank below a count, by the order of ranks */
-static size_t all_positions(bearoff_position *at, unsigned bound) {
-    size_t count = 0;
-    for (unsigned pips = 0; pips <= bound; pips++)
-        for (unsigned a = 0; a <= 15; a++)
-            for (unsigned b = 0; a + b <= 15; b++)
-                for (unsigned c = 0; a + b + c <= 15; c++)
-                    for (unsigned d = 0; a + b + c + d <= 15; d++)
-                        for (unsigned e = 0; a + b + c + d + e <= 15; e++) {
-                            unsigned low = a + 2 * b + 3 * c + 4 * d + 5 * e;
-                            if (low > pips || (pips - low) % 6 ||
-                                a + b + c + d + e + (pips - low) / 6 > 15)
-                                continue;
-                            bearoff_position one = {{(uint8_t)a, (uint8_t)b, (uint8_t)c,
-                                                     (uint8_t)d, (uint8_t)e,
-                                                     (uint8_t)((pips - low) / 6)}};
-                            at[count++] = one;
-                        }
-    return count;
 }
 
 /* seconds since some time */
@@ -451,20 +413,16 @@ static double now(void) {
 }
 
 static void speed(long calls) {
-    static bearoff_file database;
-    bearoff_facts about;
-    open_it(&database);
-    if (bearoff_about(&database, &about)) fail("about");
-    bearoff_position *at = (bearoff_position *)malloc(about.positions * sizeof *at);
-    if (!at || all_positions(at, about.bound) != about.positions) fail("positions");
-    number sum = 0;
+    bearoff_position *at = (bearoff_position *)malloc(facts.positions * sizeof *at);
+    if (!at || bearoff_listed_positions(&opened, 0, at, facts.positions)) fail("positions");
+    uint64_t sum = 0;
     double start = now();
     size_t place = 0;
     for (long i = 0; i < calls; i++) {
         bearoff_number mean;
-        place = (place + 7919) % about.positions;
-        if (bearoff_mean(&database, &at[place], &mean)) fail("mean");
-        sum += value(mean);
+        place = (place + 7919) % facts.positions;
+        if (bearoff_mean(&opened, &at[place], &mean)) fail("mean");
+        sum += mean.words[1];
     }
     printf("%.0f means a second\n", (double)calls / (now() - start));
     if (!sum) fail("no sum");
@@ -472,11 +430,7 @@ static void speed(long calls) {
 }
 
 static void tables(void) {
-    static bearoff_file database;
-    bearoff_facts about;
-    open_it(&database);
-    if (bearoff_about(&database, &about)) fail("about");
-    size_t positions = about.positions;
+    size_t positions = facts.positions;
     for (int which = 0; which < 2; which++) {
         double least = 1;
         for (int i = 0; i < 9; i++) {
@@ -484,9 +438,9 @@ static void tables(void) {
             void *room =
                 malloc(positions * (which ? sizeof(bearoff_shares) : sizeof(bearoff_number)));
             if (!room ||
-                (which ? bearoff_listed_distributions(&database, 0, (bearoff_shares *)room,
-                                                      positions)
-                       : bearoff_listed_means(&database, 0, (bearoff_number *)room, positions))) {
+                (which
+                     ? bearoff_listed_distributions(&opened, 0, (bearoff_shares *)room, positions)
+                     : bearoff_listed_means(&opened, 0, (bearoff_number *)room, positions))) {
                 fail("a table");
             }
             double taken = now() - start;
@@ -503,19 +457,15 @@ int main(int count, char **words) {
     if (!from) fail("open");
     file = read_all(from);
     fclose(from);
-    if (count == 4) {
-        speed(atol(words[3]));
-        free(file.bytes);
-        return 0;
-    }
-    if (count == 3 && !strcmp(words[2], "--tables")) {
-        tables();
-        free(file.bytes);
-        return 0;
-    }
-    lines = read_all(stdin);
-    if (count == 3 && !strcmp(words[2], "--text")) {
-        answer_by_text();
+    open_it(&opened);
+    if (bearoff_about(&opened, &facts)) fail("about");
+    int is_timed = count == 4 || (count == 3 && !strcmp(words[2], "--tables"));
+    if (!is_timed) lines = read_all(stdin);
+    if (count == 4) speed(atol(words[3]));
+    if (count == 3 && is_timed) tables();
+    int is_text = count == 3 && !strcmp(words[2], "--text");
+    if (is_text) answer_by_text();
+    if (is_timed || is_text) {
         free(lines.bytes);
         free(file.bytes);
         return 0;

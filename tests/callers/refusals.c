@@ -163,15 +163,55 @@ static void stand(bearoff_position at, uint32_t wanted, const char *what) {
 
 typedef unsigned __int128 number;
 
+/* a number of three words times another one, and one more */
+static bearoff_number times(bearoff_number of, uint64_t factor, uint64_t more) {
+    for (int word = 2; word >= 0; word--) {
+        number product = (number)of.words[word] * factor + more;
+        of.words[word] = (uint64_t)product;
+        more = (uint64_t)(product >> 64);
+    }
+    return of;
+}
+
 /* a fraction in thousandths, or that it can't be told, which is -1 */
-static void round_off(number numerator, number denominator, int wanted, const char *what) {
-    bearoff_fraction fraction = {{{0, (uint64_t)(numerator >> 64), (uint64_t)numerator}},
-                                 {{0, (uint64_t)(denominator >> 64), (uint64_t)denominator}}};
+static void round_off(bearoff_number numerator, bearoff_number denominator, int wanted,
+                      const char *what) {
+    bearoff_fraction fraction = {numerator, denominator};
     uint64_t *told = (uint64_t *)guarded(sizeof *told);
     bool is_told = bearoff_thousandths(&fraction, told);
     expect(is_told == (wanted >= 0) && guards_stand(told, sizeof *told), what, wanted);
     expect(is_told ? *told == (uint64_t)wanted : untouched(told, sizeof *told), what, (long)*told);
     let_go(told);
+}
+
+/* a fraction is at most 180, and its denominator at most 6 * 36^33 */
+static void try_thousandths(void) {
+    bearoff_number zero = {{0}}, one = {{0, 0, 1}}, power = one, whole, most;
+    bearoff_number greatest = {{0, UINT64_MAX, UINT64_MAX}};
+    for (int k = 0; k < 30; k++) power = times(power, 36, 0);
+    whole = times(power, 36 * 36 * 36, 0);
+    most = times(whole, 6, 0);
+    round_off(zero, one, 0, "nothing");
+    round_off(one, times(one, 2000, 0), 1, "a half of a thousandth");
+    round_off(one, times(one, 2001, 0), 0, "less than a half of one");
+    round_off(times(one, 180, 0), one, 180000, "the most");
+    round_off(times(one, 181, 0), one, -1, "more than 180");
+    round_off(greatest, one, -1, "the greatest numerator");
+    round_off(greatest, greatest, 1000, "the greatest numbers of two words");
+    round_off(one, zero, -1, "no denominator");
+    round_off(zero, zero, -1, "nothing of nothing");
+    round_off(whole, whole, 1000, "one");
+    round_off(zero, most, 0, "nothing of the greatest denominator");
+    round_off(most, most, 1000, "all of it");
+    round_off(zero, times(most, 1, 1), -1, "a greater denominator");
+    round_off(times(most, 180, 0), most, 180000, "the most of it");
+    round_off(times(most, 180, 1), most, -1, "more than that");
+    round_off(power, times(power, 2000, 0), 1, "a half in long numbers");
+    round_off(power, times(power, 2000, 1), 0, "less than a half in these");
+    round_off(times(power, 3, 0), times(power, 2000, 0), 2, "a thousandth and a half");
+    round_off(times(power, 359999, 0), times(power, 2000, 0), 180000, "a half less than the most");
+    for (int k = 0; k <= 180; k++)
+        round_off(times(whole, (uint64_t)k, 0), whole, 1000 * k, "so many wholes");
 }
 
 /* opens bytes with so much room for the line */
@@ -526,17 +566,7 @@ int main(int count, char **words) {
     }
     state("0,0,0,0,0,1", 12, BEAROFF_BAD_TEXT);
 
-    /* a fraction is at most 180; boards.c has the greatest numbers */
-    number greatest = ~(number)0;
-    round_off(0, 1, 0, "nothing");
-    round_off(1, 2, 500, "a half");
-    round_off(1, 2000, 1, "half a thousandth");
-    round_off(180, 1, 180000, "180");
-    round_off(181, 1, -1, "181");
-    round_off(greatest, 1, -1, "the greatest numerator");
-    round_off(1, 0, -1, "by zero");
-    round_off(0, 0, -1, "zero by zero");
-    round_off(greatest, greatest, 1000, "the greatest numbers of two words");
+    try_thousandths();
 
     /* the room for the reply to a line */
     for (size_t room = 0; room < 64; room++) {
