@@ -189,11 +189,11 @@ def need(*names):
         )
 
 
-def position_texts():
-    """The rows of texts.txt: what C and Rust, and what Python and JavaScript make of a text."""
-    rows = (HERE / "texts.txt").read_text(encoding="ascii").splitlines()
-    parts = [row.split(" ", 2) for row in rows if not row.startswith("#")]
-    return [(one, other, unquote(*text or [""])) for one, other, *text in parts]
+def coded_rows(name, count):
+    """The rows of a list that each language reads: so many words, and then a text."""
+    rows = (HERE / name).read_text(encoding="ascii").splitlines()
+    parts = [row.split(" ", count) for row in rows if not row.startswith("#")]
+    return [(*words[:count], unquote("".join(words[count:]))) for words in parts]
 
 
 def code_blocks(page, kind):

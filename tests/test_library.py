@@ -30,11 +30,11 @@ from running import (
     ROOT,
     as_bytes,
     code_blocks,
+    coded_rows,
     expect,
     expect_same,
     expect_that,
     need,
-    position_texts,
     run,
     succeed,
 )
@@ -519,7 +519,7 @@ def test_texts(library):
     """What is a position as a text."""
     call = ctypes.CDLL(str(library / "libbearoff.so")).bearoff_parse_position
     call.argtypes = [ctypes.c_char_p, ctypes.c_size_t, ctypes.c_char_p]
-    for verdict, _, text in position_texts():
+    for verdict, _, text in coded_rows("texts.txt", 2):
         content, position = text.encode(), ctypes.create_string_buffer(b"-" * 6, 6)
         status = call(content, len(content), position)
         told = {11: "bad-text", 3: "too-many"}.get(status) or ",".join(map(str, position.raw))

@@ -7,7 +7,7 @@ import struct
 
 import pytest
 
-from running import ROOT, code_blocks, expect, expect_that, need, position_texts, run
+from running import ROOT, code_blocks, coded_rows, expect, expect_that, need, run
 
 pytestmark = pytest.mark.xdist_group("rust")
 
@@ -111,12 +111,21 @@ for text in texts.split(|byte| *byte == 0xff) {
         Err(error) => println!("{:?}", error),
     }
 }
+let plays = std::fs::read("plays")?;
+for play in plays.split(|byte| *byte == 0xff) {
+    let (position, moves) = std::str::from_utf8(play)?.split_once(' ').unwrap();
+    match position.parse::<Position>()?.after(moves) {
+        Ok(position) => println!("{}", position),
+        Err(bearoff::Error::BadPlay) => println!("bad-play"),
+        Err(error) => println!("{:?}", error),
+    }
+}
 """
 
 
 def test_numbers_and_texts(cargo, room):
     """Each number is the nearest double, and with a precision what that is; each text is read as
-    the library for C reads it."""
+    the library for C reads it, and each play as in the other languages."""
     write_caller(room, NUMBERS.lstrip())
     counts = [
         f"{one},{two},{three},{four},{five},{six}"
@@ -128,13 +137,16 @@ def test_numbers_and_texts(cargo, room):
         for six in range(16 - one - two - three - four - five)
     ]
     (room / "positions").write_text("\n".join(counts))
-    rows = position_texts()
+    rows, plays = coded_rows("texts.txt", 2), coded_rows("plays.txt", 3)
     (room / "texts").write_bytes(b"\xff".join(text.encode() for _, _, text in rows))
+    asked = (f"{at} {moves}".encode() for at, _, _, moves in plays)
+    (room / "plays").write_bytes(b"\xff".join(asked))
     done = cargo("run", "--release", cwd=room)
     expect_that(done.status == 0, done, "status 0")
     lines = done.output.decode().splitlines()
-    verdicts, lines = lines[-len(rows) :], lines[: -len(rows)]
-    assert verdicts == [verdict for verdict, _, _ in rows]
+    wanted = [verdict for verdict, _, _ in rows] + [to for _, _, to, _ in plays]
+    verdicts, lines = lines[-len(wanted) :], lines[: -len(wanted)]
+    assert verdicts == wanted
     assert len(lines) > 20_000
     for line in lines:
         exact, bits, digits = line.split(" ")

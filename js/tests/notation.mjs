@@ -194,10 +194,12 @@ function compareWithGnubg() {
     equal("changed texts that are read, and refused", answered > 300 && told.changed.length - answered > 2000, true);
 }
 
+const rowsOf = (name) => readFileSync(new URL(`../../tests/${name}`, import.meta.url), "ascii").split("\n")
+    .filter((row) => row && !row.startsWith("#"));
+
 // The texts that each language reads, or refuses, as tests/texts.txt says.
 function comparePositions() {
-    const rows = readFileSync(new URL("../../tests/texts.txt", import.meta.url), "ascii").split("\n")
-        .filter((row) => row && !row.startsWith("#"));
+    const rows = rowsOf("texts.txt");
     equal("texts of positions", rows.length > 40, true);
     for (const row of rows) {
         const [, , verdict, coded] = row.match(/^(\S+) (\S+) ?(.*)$/);
@@ -208,7 +210,27 @@ function comparePositions() {
     }
 }
 
+// The plays that each language reads, or refuses.
+async function comparePlays() {
+    const { Bearoff, BearoffError } = await partOf("bearoff.js");
+    const database = await Bearoff.build(8);
+    const rows = rowsOf("plays.txt");
+    equal("texts of plays", rows.length > 30, true);
+    for (const row of rows) {
+        const [, position, roll, to, coded] = row.match(/^(\S+) (\S+) (\S+) ?(.*)$/);
+        let told = "bad-play";
+        try {
+            told = String(database.playTo(position, roll, decodeURIComponent(coded)).to);
+        } catch (error) {
+            // which a text that is no play gets as one that is no position
+            if (error instanceof BearoffError && error.name !== "NoRaceError") throw error;
+        }
+        equal(`the play ${coded}`, told, to);
+    }
+}
+
 comparePositions();
+await comparePlays();
 compareTexts();
 readAnyText();
 compareWritten();

@@ -8,7 +8,8 @@ from typing import Dict, Iterator, Tuple
 BAR = 25
 """The point from which a checker on the bar moves."""
 
-STEPS = re.compile(r"(bar|[0-9]{1,2})((?:/(?:off|[0-9]{1,2})\*?)+)(?:\(([1-4])\))?", re.IGNORECASE)
+_POINT = "0|[1-9][0-9]?"
+STEPS = re.compile(rf"(bar|{_POINT})((?:/(?:off|{_POINT})\*?)+)(?:\(([1-4])\))?", re.IGNORECASE)
 """One word of a play: a point, those at which a checker stops, and how many checkers move so."""
 
 _NAMED_POINTS: Dict[str, int] = {"bar": BAR, "off": 0}

@@ -275,9 +275,11 @@ def counts_after(position: AnyPosition, play: AnyPlay) -> bytes:
         return counts_of(play)
     counts = [0, *position_of(position)]
     try:
-        for source, target, _ in steps_of(play):
+        for source, target, is_hit in steps_of(play):
             if source >= len(counts):
                 raise NoMoves(f"no checker of a bearoff stands on point {source}")
+            if is_hit:
+                raise NoMoves("no checker is hit in a bearoff")
             counts[source] -= 1
             counts[target] += 1
     except NoMoves as error:

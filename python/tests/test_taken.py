@@ -16,11 +16,12 @@ from fractions import Fraction
 from numbers import Rational
 from pathlib import Path
 from typing import Any, Callable, Iterator, Tuple
+from urllib.parse import unquote
 
 import bearoff
 from bearoff import BadArgument, Damaged, Database, Position, Race, Refused, notation
 
-from .given import ROLLS, database, positions
+from .given import ROLLS, ROOT, database, positions
 
 SIX = Position(0, 0, 0, 0, 0, 1)
 XGID = "XGID=-ABC--D------------a-b--c-:0:0:1:21:0:0:0:0:10"
@@ -105,15 +106,21 @@ class Taken(unittest.TestCase):
                         if told:
                             self.assertEqual(here.loss(position, roll, told), choice.loss)
                             self.assertEqual(here.play_to(position, roll, told), play)
-        for text, to in (
-            ("4/2 2/1", "1,0,0,0,0,0"),
-            ("4/1", "1,0,0,0,0,0"),
-            ("4/2/1", "1,0,0,0,0,0"),
-            ("4/3 3/1", "1,0,0,0,0,0"),
-            ("2/1 4/2", "1,0,0,0,0,0"),
-        ):
-            self.assertEqual(here.loss("0,0,0,1,0,0", 21, text), here.loss("0,0,0,1,0,0", 21, to))
-        self.assertEqual(here.loss("4,0,0,0,0,0", 11, "1/off(4)"), 0)
+
+    def test_the_plays_of_every_language(self) -> None:
+        here, rows = database(44), (ROOT / "tests/plays.txt").read_text("ascii").splitlines()
+        for row in rows:
+            if row.startswith("#"):
+                continue
+            at, roll, wanted, *coded = row.split(" ", 3)
+            asked = unquote(*coded or [""])
+            try:
+                told = str(here.play_to(at, roll, asked).to)
+            except BadArgument as refused:
+                self.assertNotIsInstance(refused, Refused)
+                told = "bad-play"
+            self.assertEqual(told, wanted, row)
+        self.assertGreater(len(rows), 30)
 
     def test_what_is_no_play(self) -> None:
         here = database(8)
@@ -123,7 +130,7 @@ class Taken(unittest.TestCase):
             ("8/6", "no checker of a bearoff stands on point 8"),
             ("bar/22", "no checker of a bearoff stands on point 25"),
             ("2/4", "no checker moves so: 2/4"),
-            ("3/3", "no checker moves so: 3/3"),
+            ("3/2*", "no checker is hit in a bearoff: '3/2\\*'"),
         ):
             for call in (here.loss, here.play_to):
                 with self.assertRaisesRegex(BadArgument, why):

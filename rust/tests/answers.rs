@@ -142,22 +142,6 @@ fn rolls_and_plays_from_texts() {
     for text in ["", "2", "211", "2--1", " 21", "+2", "2,1", "\u{662}1"] {
         assert_eq!(text.parse::<Roll>(), Err(Error::BadRoll));
     }
-    let from = |text: &str, moves: &str| text.parse::<Position>().unwrap().after(moves);
-    for (position, moves, to) in [
-        ("0,0,0,2,0,0", "4/2 2/1", "1,0,0,1,0,0"),
-        ("0,0,0,1,0,0", "2/1 4/2", "1,0,0,0,0,0"),
-        ("0,0,0,0,0,2", "6/5/4(2)", "0,0,0,2,0,0"),
-        ("2,0,0,0,0,0", " 1/OFF(2) ", "0,0,0,0,0,0"),
-        ("0,0,0,0,0,1", "6/0", "0,0,0,0,0,0"),
-    ] {
-        assert_eq!(from(position, moves).unwrap().to_string(), to);
-    }
-    for moves in
-        ["", "6", "6/", "/5", "6/5/", "5/6", "6/6", "7/6", "5/4", "6/5(0)", "6/5(5)", "6/5()", "x"]
-    {
-        assert_eq!(from("0,0,0,0,0,1", moves), Err(Error::BadPlay), "{}", moves);
-    }
-    assert_eq!(from("5,0,0,0,0,0", "1/0 1/0 1/0 1/0 1/0"), Err(Error::BadPlay));
     let database = Database::build(8).unwrap();
     for position in positions(8) {
         for roll in rolls() {
