@@ -5,14 +5,17 @@ BEAROFF_LIBRARY names the shared library, BEAROFF_PROGRAM the program, and BEARO
 folder with the databases `eight`, of 8 pips, `race.db`, of 44, and `large.db`, of 58.
 """
 
+import itertools
 import os
 import subprocess
 import sys
+import tempfile
+import unittest
 from functools import lru_cache
 from pathlib import Path
-from typing import Iterator, List, Sequence, Tuple
+from typing import Any, Callable, Iterable, Iterator, List, Sequence, Tuple
 
-from bearoff import Database
+from bearoff import Database, Refused
 
 Counts = Tuple[int, ...]
 
@@ -23,9 +26,25 @@ ROLLS = [(high, low) for high in range(1, 7) for low in range(1, high + 1)]
 FILES = {8: "eight", 44: "race.db", 58: "large.db"}
 
 
+class Compared(unittest.TestCase):
+    def same(self, told: Iterable[Any], wanted: Iterable[Any]) -> None:
+        """Compares many rows, and tells the first one that differs."""
+        for place, (is_told, is_wanted) in enumerate(itertools.zip_longest(told, wanted)):
+            if is_told != is_wanted:
+                self.fail(f"row {place} is {is_told} and not {is_wanted}")
+
+    def refused(self, status: int, call: Callable[..., Any], *words: Any) -> str:
+        with self.assertRaises(Refused) as refused:
+            call(*words)
+        self.assertEqual(refused.exception.status, status, words)
+        return str(refused.exception)
+
+
 @lru_cache(maxsize=None)
 def database(bound: int) -> Database:
-    return Database.open(FOLDER / FILES[bound])
+    """The database of a file of the program, or what is built here of another bound: over 58 pips
+    a board."""
+    return Database.open(FOLDER / FILES[bound]) if bound in FILES else Database.build(bound)
 
 
 @lru_cache(maxsize=None)
@@ -51,14 +70,21 @@ def text(position: Sequence[int]) -> str:
 
 
 def replies(bound: int, lines: Sequence[str]) -> List[str]:
-    """What the program writes for lines over the database of a bound."""
-    run = subprocess.run(
-        [PROGRAM, "query", str(FOLDER / FILES[bound])],
-        input="".join(line + "\n" for line in lines),
-        stdout=subprocess.PIPE,
-        encoding="utf-8",
-        check=True,
-    )
+    """What the program writes for lines over the database of a bound, or over the whole board that
+    it builds."""
+    with tempfile.TemporaryDirectory() as folder:
+        words = [str(FOLDER / FILES[bound])] if bound in FILES else ["--board", f"{folder}/b"]
+        if bound not in FILES:
+            subprocess.run([PROGRAM, "build", *words], stdout=subprocess.DEVNULL, check=True)
+            if Path(words[-1]).read_bytes() != bytes(database(bound)):
+                raise AssertionError("the program builds other bytes")
+        run = subprocess.run(
+            [PROGRAM, "query", *words],
+            input="".join(line + "\n" for line in lines),
+            stdout=subprocess.PIPE,
+            encoding="utf-8",
+            check=True,
+        )
     return run.stdout.splitlines()
 
 

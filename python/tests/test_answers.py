@@ -3,111 +3,82 @@
 import random
 import unittest
 from fractions import Fraction
-from typing import Any, Callable, Iterator, List, Sequence, Tuple
+from typing import Any, Callable, Iterable, List, Sequence, Tuple
 from unittest import mock
 
-from bearoff import WEIGHTS, WHOLE, Choice, Database, Move, Position, Refused, _library
+from bearoff import WEIGHTS, WHOLE, Database, Move, Position, Refused, _library
 
-from .given import FOLDER, ROLLS, Counts, database, positions, replies, text
+from .given import FOLDER, ROLLS, ROOT, Compared, Counts, database, positions, replies, text
 
-Asked = Sequence[Tuple[Counts, Sequence[Tuple[int, int]]]]
+Roll = Tuple[int, int]
 
 
 def point(name: str) -> int:
     return 0 if name == "off" else int(name)
 
 
-def counts(words: str) -> Position:
-    return Position(*map(int, words.split(",")))
+class Answers(Compared):
+    def compare(self, bound: int, line: str, reply: str) -> None:
+        """The reply to a line, and what the call of the same name tells."""
+        here = database(bound)
+        self.assertEqual(here.answer(line), reply, line)
+        name, at, *asked = line.split()
+        told = reply.split()[1:]
+        if name == "mean":
+            self.assertEqual(here.mean(at), Fraction(told[0]), line)
+            thousandths = int(told[3].replace(".", ""))
+            self.assertEqual([*here.epc(at)], [Fraction(told[2]), thousandths], line)
+        elif name == "rank":
+            self.assertEqual(here.rank(at), int(told[0]), line)
+            self.assertEqual(here.position(int(told[0])), Position.parse(at), line)
+        elif name == "dist":
+            shares = [Fraction(0)] * (23 if bound <= 58 else 34)
+            for part in told:
+                count, share = part.split(":")
+                shares[int(count)] = Fraction(share)
+            self.assertEqual(list(here.distribution(at)), shares, line)
+            for rolls in (0, 5, 6, 22, 32, 33, 34, 10**30):
+                wanted = sum(shares[: rolls + 1], Fraction(0))
+                self.assertEqual(here.within(at, rolls), wanted, line)
+        elif name == "play":
+            play = here.play(at, asked[0])
+            moves = tuple(Move(*map(point, move.split("/"))) for move in told[:-2])
+            self.assertEqual((play.moves, play.to), (moves, Position.parse(told[-1])), line)
+        else:
+            parts = [part.split(":") for part in told]
+            choices = [(Position.parse(to), Fraction(loss)) for to, loss in parts]
+            self.assertEqual(here.moves(at, asked[0]), choices, line)
+            for to, loss in choices:
+                self.assertEqual(here.loss(at, asked[0][::-1], to), loss, line)
 
+    def test_stored_rows(self) -> None:
+        stored = (ROOT / "tests/board_rows.txt").read_text("ascii").splitlines()
+        self.assertGreater(len(stored), 70)
+        for line, reply in zip(stored[::2], stored[1::2]):
+            self.compare(90, line, reply)
 
-def pairs(table: memoryview) -> List[Tuple[int, int]]:
-    """The halves of each number of a table."""
-    halves = table.cast("B").cast("Q").tolist()
-    return list(zip(halves[::2], halves[1::2]))
-
-
-def wide(high: int, low: int) -> int:
-    return (high << 64) + low
-
-
-class Answers(unittest.TestCase):
-    def compare(self, bound: int, asked: Asked) -> None:
+    def compare_all(self, bound: int, asked: Iterable[Tuple[Counts, Sequence[Roll]]]) -> None:
         """Each answer about these positions and rolls is that of the program's line."""
         lines: List[str] = []
         for position, rolls in asked:
             at = text(position)
-            lines += ["mean " + at, "dist " + at, "rank " + at]
-            for roll in rolls:
-                lines += [f"play {at} {roll[0]}{roll[1]}", f"moves {at} {roll[0]}{roll[1]}"]
-        written = replies(bound, lines)
-        for line, reply in zip(lines, written):
-            self.assertEqual(database(bound).answer(line), reply, line)
-        told = iter([reply.split() for reply in written])
-        tables = Tables(database(bound))
-        for position, rolls in asked:
-            self.compare_numbers(bound, position, told, tables)
-            for roll in rolls:
-                self.compare_plays(bound, position, roll, told)
-        self.assertRaises(StopIteration, next, told)
-
-    def compare_numbers(
-        self, bound: int, at: Counts, told: Iterator[List[str]], tables: "Tables"
-    ) -> None:
-        here = database(bound)
-        _, mean, _, epc, rounded = next(told)
-        shares = [Fraction(0)] * 23
-        for part in next(told)[1:]:
-            count, share = part.split(":")
-            shares[int(count)] = Fraction(share)
-        rank = int(next(told)[1])
-        ways: List[Any] = [at, list(at), text(at), Position(*at)]
-        for position in ways:
-            self.assertEqual(here.mean(position), Fraction(mean), at)
-            self.assertEqual(here.rank(position), rank, at)
-            self.assertIn(position, here)
-        pips = here.epc(at)
-        self.assertEqual(pips.exact, Fraction(epc), at)
-        self.assertEqual(pips.thousandths, int(rounded.replace(".", "")), at)
-        self.assertEqual(list(here.distribution(at)), shares, at)
-        self.assertEqual(here.position(rank), at)
-        self.assertEqual(tables.position(rank), at)
-        self.assertEqual(tables.mean(rank), Fraction(mean), at)
-        self.assertEqual(tables.epc(rank), (pips.exact, pips.thousandths), at)
-        self.assertEqual(tables.distribution(rank), shares, at)
-
-    def compare_plays(
-        self, bound: int, at: Counts, roll: Tuple[int, int], told: Iterator[List[str]]
-    ) -> None:
-        here = database(bound)
-        *moves, _, to = next(told)[1:]
-        play = here.play(at, roll)
-        self.assertEqual(play.moves, tuple(Move(*map(point, move.split("/"))) for move in moves))
-        self.assertEqual(play.to, counts(to))
-        choices = [
-            Choice(counts(to), Fraction(loss))
-            for to, loss in (part.split(":") for part in next(told)[1:])
-        ]
-        self.assertEqual(here.moves(at, roll), choices)
-        for choice in choices:
-            self.assertEqual(here.loss(at, roll[::-1], choice.to), choice.loss)
-
-    def compare_some(self, bound: int) -> None:
-        chance = random.Random(bound)
-        found = positions(bound)
-        some = [(chance.choice(found), [chance.choice(ROLLS)]) for _ in range(1000)]
-        self.compare(
-            bound, [(position, rolls if any(position) else []) for position, rolls in some]
-        )
+            lines += [f"mean {at}", f"dist {at}", f"rank {at}"]
+            for high, low in rolls if any(position) else ():
+                lines += [f"play {at} {high}{low}", f"moves {at} {low}{high}"]
+        told = replies(bound, lines)
+        self.assertEqual(len(told), len(lines))
+        for line, reply in zip(lines, told):
+            self.compare(bound, line, reply)
 
     def test_every_position_of_8_pips(self) -> None:
-        self.compare(8, [(position, ROLLS if any(position) else []) for position in positions(8)])
+        self.compare_all(8, [(position, ROLLS) for position in positions(8)])
 
-    def test_a_thousand_positions_of_44_pips(self) -> None:
-        self.compare_some(44)
-
-    def test_a_thousand_positions_of_58_pips(self) -> None:
-        self.compare_some(58)
+    def test_some_positions(self) -> None:
+        for bound, most, count in ((44, 0, 1000), (58, 0, 1000), (90, 58, 300)):
+            chance = random.Random(bound)
+            found = positions(bound)[len(positions(most)) if most else 0 :]
+            some = [found[-1], *(chance.choice(found) for _ in range(count))]
+            self.compare_all(bound, [(position, [chance.choice(ROLLS)]) for position in some])
 
     def test_names_and_numbers(self) -> None:
         eight = Database.open((FOLDER / "eight").read_bytes())
@@ -216,35 +187,7 @@ class Answers(unittest.TestCase):
             self.assertEqual(built.bound, bound)
 
 
-class Tables:
-    """The whole tables of a database, read row by row without numpy."""
-
-    def __init__(self, of: Database) -> None:
-        # what a memoryview of more than one dimension takes as an index, types don't know
-        self.positions: Any = of.positions()
-        self.means: Any = of.means()
-        self.epcs: Any = of.epcs()
-        self.distributions: Any = of.distributions()
-
-    def position(self, rank: int) -> Counts:
-        return tuple(self.positions[rank, place] for place in range(6))
-
-    def mean(self, rank: int) -> Fraction:
-        return Fraction(wide(self.means[rank, 0], self.means[rank, 1]), WHOLE)
-
-    def epc(self, rank: int) -> Tuple[Fraction, int]:
-        row = [self.epcs[rank, place] for place in range(5)]
-        return Fraction(wide(*row[0:2]), wide(*row[2:4])), row[4]
-
-    def distribution(self, rank: int) -> List[Fraction]:
-        table = self.distributions
-        return [
-            Fraction(wide(table[rank, rolls, 0], table[rank, rolls, 1]), WHOLE)
-            for rolls in range(23)
-        ]
-
-
-class WholeTables(unittest.TestCase):
+class WholeTables(Compared):
     def test_shapes(self) -> None:
         for bound in (8, 58):
             here = database(bound)
@@ -259,23 +202,15 @@ class WholeTables(unittest.TestCase):
                     (table.format, table.shape, table.c_contiguous), (format, shape, True)
                 )
 
-    def test_every_row_of_58_pips(self) -> None:
-        here, found = database(58), positions(58)
-        self.assertEqual(bytes(here.positions()), b"".join(map(bytes, found)))
-        self.assertEqual(list(here), found)
-        for position, (high, low) in zip(found, pairs(here.means())):
-            self.assertEqual(here.mean(position), Fraction(wide(high, low), WHOLE))
-
     def test_weights(self) -> None:
         """Floats by the weights are as near to the exact numbers as the page says, also where one
         half is nothing."""
         here = database(58)
-        halves = [*pairs(here.means()), *pairs(here.distributions())[::29]]
+        flat = [*here.means().cast("B").cast("Q"), *here.distributions().cast("B").cast("Q")]
+        halves = [*zip(flat[::2], flat[1::2])][::7]
         for high, low in halves:
-            about = high * WEIGHTS[0] + low * WEIGHTS[1]
-            self.assertLessEqual(
-                abs(about - wide(high, low) / WHOLE), 1e-15 * wide(high, low) / WHOLE
-            )
+            about, exact = high * WEIGHTS[0] + low * WEIGHTS[1], (high << 64) + low
+            self.assertLessEqual(abs(about - exact / WHOLE), 1e-15 * exact / WHOLE)
         self.assertTrue(any(high == 0 < low for high, low in halves))
 
     def test_a_table_belongs_to_the_caller(self) -> None:

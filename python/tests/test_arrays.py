@@ -16,7 +16,7 @@ from unittest import mock
 from bearoff import WHOLE, BadArgument, Database, Position, Refused
 from bearoff.ranking import Ranks
 
-from .given import ROLLS, database, positions, text
+from .given import ROLLS, Compared, database, positions, text
 
 try:
     numpy: Any = importlib.import_module("numpy")
@@ -55,17 +55,8 @@ def exact(table: memoryview) -> List[Fraction]:
     return [Fraction((high << 64) + low, WHOLE) for high, low in zip(flat[::2], flat[1::2])]
 
 
-class Rows(unittest.TestCase):
-    """A test that compares many rows, and tells the first one that differs."""
-
-    def same(self, told: Iterable[Any], wanted: Iterable[Any]) -> None:
-        for place, (is_told, is_wanted) in enumerate(itertools.zip_longest(told, wanted)):
-            if is_told != is_wanted:
-                self.fail(f"row {place} is {is_told} and not {is_wanted}")
-
-
-class RanksOfRows(Rows):
-    def refused(self, rows: Any, status: int, line: str, bound: int = 8) -> None:
+class RanksOfRows(Compared):
+    def refused_rows(self, rows: Any, status: int, line: str, bound: int = 8) -> None:
         with self.assertRaises(Refused) as refused:
             database(bound).ranks(rows)
         self.assertEqual((refused.exception.status, str(refused.exception)), (status, line))
@@ -88,7 +79,7 @@ class RanksOfRows(Rows):
         self.same(ranks.tolist(), [here.rank(counts) for counts in inside])
         for counts in all_of_them:
             if pips(counts) > 58:
-                self.refused(
+                self.refused_rows(
                     [inside[0], counts],
                     4,
                     f"more pips than the bound: {text(counts)} in row 1",
@@ -120,12 +111,16 @@ class RanksOfRows(Rows):
 
     def test_refused(self) -> None:
         six, none = (0, 0, 0, 0, 0, 1), (0,) * 6
-        self.refused(
+        self.refused_rows(
             [six, none, (0, 0, 0, 0, 0, 16)], 3, "more than 15 checkers: 0,0,0,0,0,16 in row 2"
         )
-        self.refused([six, (1, 15, 0, 0, 0, 0)], 3, "more than 15 checkers: 1,15,0,0,0,0 in row 1")
-        self.refused([(999,) * 6], 3, "more than 15 checkers: 999,999,999,999,999,999 in row 0")
-        self.refused(
+        self.refused_rows(
+            [six, (1, 15, 0, 0, 0, 0)], 3, "more than 15 checkers: 1,15,0,0,0,0 in row 1"
+        )
+        self.refused_rows(
+            [(999,) * 6], 3, "more than 15 checkers: 999,999,999,999,999,999 in row 0"
+        )
+        self.refused_rows(
             [(1, 0, 0, 2, 0, 0), "9,0,0,0,0,0"],
             4,
             "more pips than the bound: 1,0,0,2,0,0 in row 0",
@@ -200,7 +195,7 @@ class RanksOfRows(Rows):
                 if max(first) > 999:
                     self.bad(table, f"in row {place}")
                 else:
-                    self.refused(table, 3, line)
+                    self.refused_rows(table, 3, line)
             for count in {16, 17, 32, 48, 64, 100, 127, most}:
                 for point in range(6):
                     table = numpy.zeros((3, 6), kind)
@@ -216,9 +211,9 @@ class RanksOfRows(Rows):
             ]
             for counts in (*many, (15,) * 6):
                 line = f"more than 15 checkers: {text(counts)} in row 0"
-                self.refused(numpy.array([counts], kind), 3, line, 58)
+                self.refused_rows(numpy.array([counts], kind), 3, line, 58)
             line = "more pips than the bound: 0,0,0,0,9,6 in row 0"
-            self.refused(numpy.array([(0, 0, 0, 0, 9, 6)], kind), 4, line, 58)
+            self.refused_rows(numpy.array([(0, 0, 0, 0, 9, 6)], kind), 4, line, 58)
         for kind in ("int8", "int16", "int32", "int64"):
             for point, count in itertools.product(range(6), (-1, -16, -128)):
                 table = numpy.zeros((2, 6), kind)
@@ -277,7 +272,7 @@ class RanksOfRows(Rows):
         self.assertIsInstance(Ranks(here.positions()), Ranks)
 
 
-class Floats(Rows):
+class Floats(Compared):
     def test_each_is_the_nearest_to_the_exact_number(self) -> None:
         for bound in (8, 58):
             here, count = database(bound), len(positions(bound))
@@ -362,7 +357,7 @@ class Floats(Rows):
             self.assertEqual(call(floats=True).tolist(), before)
 
 
-class Singles(Rows):
+class Singles(Compared):
     def test_standing(self) -> None:
         for counts in every():
             self.assertEqual(

@@ -1,32 +1,23 @@
-"""A board file under the same calls as a database: its replies are the stored ones and those of
-the program, each number to 58 pips is that of the database of 58 pips, each table has the single
-answers, and what is refused of a database is refused of it.
+"""A board file under the same calls as a database: each number to 58 pips is that of the database
+of 58 pips, each table has the single answers, and damaged bytes are refused.
 """
 
-import itertools
 import pickle
 import random
-import subprocess
 import tempfile
 import unittest
 from fractions import Fraction
-from functools import lru_cache
 from pathlib import Path
 from typing import Any, Callable, Iterable, List, Sequence, Tuple
 
 import bearoff
-from bearoff import WHOLE, BadArgument, Damaged, Database, Move, OutOfRange, Position, Refused
+from bearoff import WHOLE, Damaged, Database
 
-from .given import PROGRAM, ROLLS, ROOT, Counts, database, positions, text
+from .given import ROOT, Compared, Counts, database, positions
 
 LONG_WHOLE = 36**33
 SIX = (0, 0, 0, 0, 0, 1)
 ALL_ON_SIX = (0, 0, 0, 0, 0, 15)
-
-
-@lru_cache(maxsize=None)
-def board(bound: int = 90) -> Database:
-    return Database.build(bound)
 
 
 def long(words: Sequence[int]) -> int:
@@ -54,97 +45,19 @@ def pips(counts: Counts) -> int:
     return sum(point * count for point, count in enumerate(counts, 1))
 
 
-def point(name: str) -> int:
-    return 0 if name == "off" else int(name)
-
-
-class Compared(unittest.TestCase):
-    def same(self, told: Iterable[Any], wanted: Iterable[Any]) -> None:
-        for place, (is_told, is_wanted) in enumerate(itertools.zip_longest(told, wanted)):
-            if is_told != is_wanted:
-                self.fail(f"row {place} is {is_told} and not {is_wanted}")
-
-    def refused(self, status: int, call: Callable[..., Any], *words: Any) -> str:
-        with self.assertRaises(Refused) as refused:
-            call(*words)
-        self.assertEqual(refused.exception.status, status, words)
-        return str(refused.exception)
-
-
 class Replies(Compared):
-    def compare(self, line: str, reply: str) -> None:
-        """The reply to a line, and what the call of the same name tells."""
-        here = board()
-        self.assertEqual(here.answer(line), reply, line)
-        name, at, *asked = line.split()
-        told = reply.split()[1:]
-        if name == "mean":
-            self.assertEqual(here.mean(at), Fraction(told[0]), line)
-            thousandths = int(told[3].replace(".", ""))
-            self.assertEqual([*here.epc(at)], [Fraction(told[2]), thousandths], line)
-        elif name == "rank":
-            self.assertEqual(here.rank(at), int(told[0]), line)
-            self.assertEqual(here.position(int(told[0])), Position.parse(at), line)
-        elif name == "dist":
-            shares = [Fraction(0)] * 34
-            for part in told:
-                count, share = part.split(":")
-                shares[int(count)] = Fraction(share)
-            self.assertEqual(list(here.distribution(at)), shares, line)
-            for rolls in (0, 5, 6, 22, 32, 33, 34, 10**30):
-                wanted = sum(shares[: rolls + 1], Fraction(0))
-                self.assertEqual(here.within(at, rolls), wanted, line)
-        elif name == "play":
-            play = here.play(at, asked[0])
-            moves = tuple(Move(*map(point, move.split("/"))) for move in told[:-2])
-            self.assertEqual((play.moves, play.to), (moves, Position.parse(told[-1])), line)
-        else:
-            parts = [part.split(":") for part in told]
-            choices = [(Position.parse(to), Fraction(loss)) for to, loss in parts]
-            self.assertEqual(here.moves(at, asked[0]), choices, line)
-            for to, loss in choices:
-                self.assertEqual(here.loss(at, asked[0][::-1], to), loss, line)
-
-    def test_stored_rows(self) -> None:
-        stored = (ROOT / "tests/board_rows.txt").read_text("ascii").splitlines()
-        self.assertGreater(len(stored), 70)
-        for line, reply in zip(stored[::2], stored[1::2]):
-            self.compare(line, reply)
-
-    def test_file_and_lines_of_the_program(self) -> None:
-        """The program builds the same bytes, and writes the same about positions over 58 pips."""
-        chance = random.Random(90)
-        beyond = positions(90)[len(positions(58)) :]
-        lines = ["moves 2,2,2,3,3,3 11", "play 0,0,0,0,0,15 66"]
-        for at in map(text, [ALL_ON_SIX, (0,) * 6, *(chance.choice(beyond) for _ in range(300))]):
-            lines += [f"mean {at}", f"dist {at}", f"rank {at}"]
-            if at != "0,0,0,0,0,0":
-                high, low = chance.choice(ROLLS)
-                lines += [f"play {at} {high}{low}", f"moves {at} {low}{high}"]
-        with tempfile.TemporaryDirectory() as folder:
-            file = Path(folder, "board.db")
-            words = [PROGRAM, "build", "--board", str(file)]
-            subprocess.run(words, stdout=subprocess.DEVNULL, check=True)
-            self.assertTrue(file.read_bytes() == bytes(board()), "the bytes differ")
-            words = [PROGRAM, "query", "--board", str(file)]
-            given = "".join(line + "\n" for line in lines)
-            replies = subprocess.check_output(words, input=given, encoding="ascii").splitlines()
-        self.assertEqual(len(replies), len(lines))
-        for line, reply in zip(lines, replies):
-            self.compare(line, reply)
-
     def test_lines_that_are_refused(self) -> None:
         lines = ("", "mean", "mean 0,0,0,0,0,1 ", "mean \u0661", "play 0,0,0,0,0,1 17", "nothing")
         for line in lines:
-            self.assertEqual(board().answer(line), database(58).answer(line), line)
-        self.assertTrue(board(59).answer("rank 0,0,0,0,0,10").startswith("error"))
+            self.assertEqual(database(90).answer(line), database(58).answer(line), line)
+        self.assertTrue(database(59).answer("rank 0,0,0,0,0,10").startswith("error"))
 
 
 class LikeTheDatabase(Compared):
     """To 58 pips a board and the database of 58 pips say the same."""
 
     def test_whole_tables(self) -> None:
-        here, there = board(), database(58)
+        here, there = database(90), database(58)
         count, times = len(there), 36**11
         self.assertEqual(bytes(here.positions())[: 6 * count], bytes(there.positions()))
         wide = [(high << 64) + low for high, low in rows(there.means(), 2)]
@@ -161,26 +74,9 @@ class LikeTheDatabase(Compared):
             if told[34 * rank : 34 * rank + 34] != wanted:
                 self.fail(f"the shares of rank {rank}")
 
-    def test_single_answers(self) -> None:
-        here, there = board(), database(58)
-        chance = random.Random(58)
-        for at in (chance.choice(positions(58)[1:]) for _ in range(1000)):
-            roll = chance.choice(ROLLS)
-            self.assertEqual(here.mean(at), there.mean(at), at)
-            self.assertEqual(here.epc(at), there.epc(at), at)
-            self.assertEqual(here.wastage(at), there.wastage(at), at)
-            self.assertEqual(here.distribution(at), (*there.distribution(at), *[0] * 11), at)
-            self.assertEqual(here.within(at, 7), there.within(at, 7), at)
-            self.assertEqual(here.rank(at), there.rank(at), at)
-            self.assertEqual(here.play(at, roll), there.play(at, roll), at)
-            choices = there.moves(at, roll)
-            self.assertEqual(here.moves(at, roll), choices, at)
-            last = choices[-1]
-            self.assertEqual(here.loss(at, roll, last.to), last.loss, at)
-
     def test_graded_matches(self) -> None:
         match = ROOT / "python/tests/matches/short.mat"
-        here, there = bearoff.grade(match, board()), bearoff.grade(match, database(58))
+        here, there = bearoff.grade(match, database(90)), bearoff.grade(match, database(58))
         self.assertEqual((here.bound, there.bound), (90, 58))
         inside = [play for play in here.plays if pips(play.position) <= 58]
         self.assertEqual(inside, list(there.plays))
@@ -191,7 +87,7 @@ class LikeTheDatabase(Compared):
 
 class Tables(Compared):
     def test_shapes(self) -> None:
-        here, count = board(), 54264
+        here, count = database(90), 54264
         for table, format, shape in (
             (here.positions(), "B", (count, 6)),
             (here.means(), "Q", (count, 3)),
@@ -209,7 +105,7 @@ class Tables(Compared):
             self.assertTrue(table.c_contiguous)
 
     def test_every_rank(self) -> None:
-        here, found = board(), positions(90)
+        here, found = database(90), positions(90)
         self.assertEqual((len(here), len(found)), (54264, 54264))
         self.assertEqual(bytes(here.positions()), b"".join(map(bytes, found)))
         self.same(here, found)
@@ -219,7 +115,7 @@ class Tables(Compared):
         self.assertEqual(here[54261:], found[54261:])
 
     def test_every_mean(self) -> None:
-        here, found = board(), positions(90)
+        here, found = database(90), positions(90)
         means = [here.mean(counts) for counts in found]
         self.same(means, [Fraction(number, LONG_WHOLE) for number in longs(here.means())])
         self.same(here.means(floats=True).tolist(), map(float, means))
@@ -235,7 +131,7 @@ class Tables(Compared):
             self.assertEqual(long(row[3:6]), epc.denominator)
 
     def test_every_share(self) -> None:
-        here, found = board(), positions(90)
+        here, found = database(90), positions(90)
         shares = longs(here.distributions())
         floats = here.distributions(floats=True).cast("B").cast("d").tolist()
         self.same(floats, (share / LONG_WHOLE for share in shares))
@@ -258,7 +154,7 @@ class Tables(Compared):
             self.assertEqual(here.wastage(found[rank]).exact, epc.exact - pips(found[rank]))
 
     def test_a_table_belongs_to_the_caller(self) -> None:
-        here = board(59)
+        here = database(59)
         calls: List[Callable[[], memoryview]]
         calls = [here.positions, here.means, here.epcs, here.wastages, here.distributions]
         for call in calls:
@@ -277,11 +173,13 @@ class Kinds(Compared):
             self.assertEqual(here.distribution(SIX)[1], Fraction(3, 4))
             shown = f"{bound} pips, {count} positions, version {version}"
             self.assertEqual(repr(here), f"<bearoff.Database: {shown}>")
-        self.assertEqual((board().version, board().whole, board().bound), (3, LONG_WHOLE, 90))
+        self.assertEqual(
+            (database(90).version, database(90).whole, database(90).bound), (3, LONG_WHOLE, 90)
+        )
         self.assertEqual(database(44).whole, WHOLE)
 
     def test_by_the_header(self) -> None:
-        files = ((bytes(board(59)), 3), (bytes(database(8)), 1), (database(8).upgrade(), 2))
+        files = ((bytes(database(59)), 3), (bytes(database(8)), 1), (database(8).upgrade(), 2))
         for content, version in files:
             whole = LONG_WHOLE if version == 3 else WHOLE
             with tempfile.TemporaryDirectory() as folder:
@@ -298,7 +196,7 @@ class Kinds(Compared):
                 self.assertEqual((again.version, again.whole), (version, whole))
 
     def test_copies(self) -> None:
-        here = Database(bytes(board(59)))
+        here = Database(bytes(database(59)))
         again, copied = pickle.loads(pickle.dumps(here)), here.__copy__()
         here.close()
         for other in (again, copied):
@@ -308,7 +206,7 @@ class Kinds(Compared):
         """The first fault of damaged bytes is named, of either kind, and a version that is neither
         is refused as ever.
         """
-        content, small = bytes(board(59)), bytes(database(8))
+        content, small = bytes(database(59)), bytes(database(8))
 
         def changed(of: bytes, place: int, *new: int) -> bytes:
             return of[:place] + bytes(new) + of[place + len(new) :]
@@ -336,7 +234,7 @@ class Kinds(Compared):
                 self.assertEqual(told, (status, line))
 
     def test_a_damaged_byte(self) -> None:
-        content = bytes(board(59))
+        content = bytes(database(59))
         chance = random.Random(3)
         some = (chance.randrange(32, len(content)) for _ in range(20))
         for place in [32, len(content) - 1, *some]:
@@ -346,65 +244,8 @@ class Kinds(Compared):
                 Database(changed)
             self.assertIn(damaged.exception.status, range(24, 28), place)
 
-    def test_bounds(self) -> None:
-        for beyond in (91, 255, 256, 256 + 59, 2**64):
-            told = self.refused(4, Database.build, beyond)
-            self.assertTrue(told.endswith(", and no bound is over 90"), told)
-        for wrong in (-1, 59.0, "90", None):
-            self.assertRaises(BadArgument, Database.build, wrong)
-
-
-class Refusals(Compared):
-    def test_positions_that_have_no_answer(self) -> None:
-        for here, beyond in ((board(59), (0, 0, 0, 0, 0, 10)), (board(), None)):
-            for call in (here.mean, here.epc, here.wastage, here.distribution, here.rank):
-                told = self.refused(3, call, "1,15,0,0,0,0")
-                self.assertEqual(told, "more than 15 checkers: 1,15,0,0,0,0")
-                self.refused(3, call, (256,) * 6)
-                self.assertRaises(BadArgument, call, (0,) * 5)
-                if beyond:
-                    told = self.refused(4, call, beyond)
-                    self.assertEqual(told, f"more pips than the bound: {text(beyond)}")
-            self.assertNotIn("16,0,0,0,0,0", here)
-            self.assertNotIn("six", here)
-            self.assertIn(SIX, here)
-            with_rolls: List[Callable[..., Any]] = [here.play, here.moves]
-            for with_roll in with_rolls:
-                self.refused(5, with_roll, (0,) * 6, (2, 1))
-                self.refused(2, with_roll, SIX, (7, 1))
-                self.refused(3, with_roll, (255,) * 6, (2, 1))
-            self.refused(6, here.loss, SIX, (2, 1), "1,0,0,0,0,0")
-            self.refused(3, here.loss, SIX, (2, 1), "16,0,0,0,0,0")
-            self.assertRaises(BadArgument, here.within, SIX, -1)
-            self.refused(10, here.position, len(here))
-            self.assertRaises(OutOfRange, here.__getitem__, len(here))
-            self.assertRaises(BadArgument, here.position, -1)
-        self.assertNotIn((0, 0, 0, 0, 0, 10), board(59))
-        self.assertIn((0, 0, 0, 0, 0, 15), board())
-        told = self.refused(4, board(59).ranks, [SIX, (0, 0, 0, 0, 0, 10)])
-        self.assertEqual(told, "more pips than the bound: 0,0,0,0,0,10 in row 1")
-
     def test_a_board_is_not_upgraded(self) -> None:
-        self.assertEqual(self.refused(18, board(59).upgrade), "the version is not 1 or 2")
-
-    def test_a_closed_board(self) -> None:
-        here = Database(bytes(board(59)))
-        here.close()
-        self.assertTrue(here.closed)
-        calls: List[Callable[..., Any]] = [here.mean, here.epc, here.wastage, here.distribution]
-        calls += [here.rank, here.__contains__]
-        for call in calls:
-            self.refused(1, call, SIX)
-        asks: List[Callable[[], Any]] = [here.positions, here.means, here.epcs, here.wastages]
-        asks += [here.distributions, lambda: here.withins(3), lambda: here.within(SIX, 3)]
-        asks += [lambda: here.position(0), here.upgrade, lambda: here.play(SIX, "21")]
-        asks += [lambda: here.moves(SIX, "21"), lambda: here.loss(SIX, "21", SIX)]
-        asks += [lambda: here.version, lambda: here.bound, lambda: here.whole, lambda: len(here)]
-        asks += [lambda: bytes(here), lambda: here.ranks([SIX]), lambda: here[0]]
-        asks += [lambda: list(here), lambda: here.answer("rank 0,0,0,0,0,1")]
-        for ask in asks:
-            self.refused(1, ask)
-        self.assertEqual(repr(here), "<bearoff.Database: closed>")
+        self.assertEqual(self.refused(18, database(59).upgrade), "the version is not 1 or 2")
 
 
 if __name__ == "__main__":

@@ -26,7 +26,7 @@ from bearoff import (
 from bearoff._opened import build
 from bearoff.matches import read_match
 
-from .given import FOLDER, ROOT, database
+from .given import FOLDER, ROOT, Compared, database
 
 Calls = Tuple[Callable[..., Any], ...]
 
@@ -203,14 +203,7 @@ def calls_of(here: Database) -> Dict[str, Calls]:
     }
 
 
-class Refusals(unittest.TestCase):
-    def refused(self, status: int, call: Callable[..., Any], *words: Any) -> str:
-        with self.assertRaises(Refused) as refused:
-            call(*words)
-        self.assertIsInstance(refused.exception, BearoffError)
-        self.assertEqual(refused.exception.status, status, words)
-        return str(refused.exception)
-
+class Refusals(Compared):
     def bad(self, call: Callable[..., Any], *words: Any) -> None:
         with self.assertRaises(BadArgument) as refused:
             call(*words)
@@ -284,8 +277,8 @@ class Refusals(unittest.TestCase):
     def test_what_is_no_bound(self) -> None:
         for wrong in (*NO_RANKS, "44", (44,)):
             self.bad(Database.build, wrong)
-        for beyond in (91, 255, 256, 256 + 8, 2**64, HUGE):
-            self.refused(4, Database.build, beyond)
+        for beyond in (91, 255, 256, 256 + 8, 256 + 59, 2**64, HUGE):
+            self.assertIn(", and no bound is over 90", self.refused(4, Database.build, beyond))
         self.assertEqual(len(Database.build(0)), 1)
 
     def test_what_is_no_line(self) -> None:
@@ -347,8 +340,16 @@ class Refusals(unittest.TestCase):
         for match in (file, None, 0, "a\0b"):
             self.bad(grade, match, here)
 
+    def each_kind(self, ask: Callable[[Database], None]) -> None:
+        """Asks a database and a board of 8 pips."""
+        for content in (bytes(database(8)), board(8)):
+            with Database(content) as here, self.subTest(whole=here.whole):
+                ask(here)
+
     def test_positions_that_have_no_answer(self) -> None:
-        here = database(8)
+        self.each_kind(self.ask_what_has_no_answer)
+
+    def ask_what_has_no_answer(self, here: Database) -> None:
         for call in (here.mean, here.epc, here.wastage, here.distribution, here.rank):
             told = self.refused(3, call, (1, 15, 0, 0, 0, 0))
             self.assertEqual(told, "more than 15 checkers: 1,15,0,0,0,0")
@@ -460,7 +461,9 @@ class Refusals(unittest.TestCase):
             self.bad(call, *words)
 
     def test_a_closed_database(self) -> None:
-        here = Database.open(FOLDER / "eight")
+        self.each_kind(self.ask_what_is_closed)
+
+    def ask_what_is_closed(self, here: Database) -> None:
         self.assertFalse(here.closed)
         self.assertIs(here.__enter__(), here)
         here.close()
@@ -499,6 +502,7 @@ class Refusals(unittest.TestCase):
         self.refused(1, here.answer, "rank 0,0,0,0,0,1")
         self.refused(1, lambda: here.version)
         self.refused(1, lambda: here.bound)
+        self.refused(1, lambda: here.whole)
         self.assertEqual(repr(here), "<bearoff.Database: closed>")
         self.assertTrue(here)
 
