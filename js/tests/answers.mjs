@@ -1,12 +1,12 @@
 // Asks the package everything that the program was asked, and compares what it answers with the program's lines: each call,
-// the texts of its replies, whole tables, and the bytes of files. answers.mjs PACKAGE PROGRAM FOLDER [BOUND..]
+// the texts of its replies, whole tables, and the bytes of files: of databases and of a board of 90 pips, which to 58 pips
+// says what a database says. answers.mjs PACKAGE PROGRAM FOLDER [BOUND..]
 import { bytesOf, end, equal, FILES, linesOf, partOf, textOf, wrong } from "./given.mjs";
 import { isNearest, nearest, number, walked, written } from "./written.mjs";
 
 const { Bearoff, BearoffError, asDoubles, asNumber } = await partOf("bearoff.js");
 const { read } = await partOf("notation.js");
 const { version } = JSON.parse(textOf("package.json"));
-const WHOLE = 36n ** 22n;
 const REFUSED = ["too-many", "over-bound", "finished", "not-legal"];
 
 function compareLines(database, bound) {
@@ -30,8 +30,8 @@ function compareLines(database, bound) {
         equal(`${name}, by its call`, is, reply);
     });
     for (const kind of ["mean", "dist", "play", "loss", "moves", "bad-line", ...REFUSED]) {
-        // 48 pips are over the bound of 44, and not over that of 58
-        seen.has(kind) || (bound === 58 && kind === "over-bound") || wrong(`no reply ${kind} over ${bound} pips`);
+        // 48 pips are over the bound of 44, and over no greater one
+        seen.has(kind) || (bound >= 58 && kind === "over-bound") || wrong(`no reply ${kind} over ${bound} pips`);
     }
     return new Set(lines.filter((_, place) => replies[place].startsWith("mean")).map((line) => line.split(" ")[1]));
 }
@@ -45,17 +45,26 @@ function comparePosition(database, name, position) {
     const [mean, epc] = [database.mean(position), database.epc(position)];
     equal(`${name}, the mean in thousandths`, mean.thousandths, nearest(mean));
     equal(`${name}, the mean as a double`, isNearest(asNumber(mean), mean.numerator, mean.denominator), true);
+    equal(`${name}, the thousandths of the mean`, database.thousandths(mean), mean.thousandths);
+    equal(`${name}, the effective pip count in thousandths`, epc.thousandths, nearest(epc));
+    equal(`${name}, 49/6 pips a roll`, epc.numerator * 6n * mean.denominator, 49n * mean.numerator * epc.denominator);
     equal(`${name}, wastage`, database.wastage(position).thousandths, epc.thousandths - 1000 * pips);
     const rank = database.rank(position);
     equal(`${name}, its rank's position`, database.position(rank).join(), position.join());
     equal(`${name}, by the line`, database.answer(`rank ${position}`), `rank ${rank}`);
-    let sum = 0n;
-    database.distribution(position).forEach((share, rolls) => {
+    const [whole, shares] = [database.whole, database.distribution(position)];
+    equal(`${name}, how many shares`, shares.length, database.version === 3 ? 34 : 23);
+    let [sum, all] = [0n, 0n];
+    shares.forEach((share, rolls) => {
         sum += share.numerator;
+        all += share.numerator * BigInt(rolls);
+        equal(`${name}, the whole`, share.denominator, whole);
         equal(`${name}, a share in thousandths`, database.thousandths(share), nearest(share));
-        equal(`${name}, within ${rolls}`, database.within(position, rolls).thousandths, nearest({ numerator: sum, denominator: WHOLE }));
+        equal(`${name}, within ${rolls}`, database.within(position, rolls).thousandths, nearest({ numerator: sum, denominator: whole }));
     });
-    equal(`${name}, all shares`, sum, WHOLE);
+    equal(`${name}, all shares`, sum, whole);
+    equal(`${name}, within many`, database.within(position, 1000).thousandths, 1000);
+    equal(`${name}, the mean of the shares`, all * mean.denominator, mean.numerator * whole);
     for (const roll of [[2, 1], [6, 6]]) {
         for (const { to } of checkers > 0 ? database.moves(position, roll) : []) {
             const play = database.playTo(position, roll, to);
@@ -85,19 +94,6 @@ function compareTexts(database) {
         for (const to of [choice, one, one.text, choice.to.join(), choice.to]) same(`what ${one.text} costs`, database.loss(xgid, "21", to), choice.loss);
         same(`how to play ${one.text}`, database.playTo(xgid, 21, one.text), one);
     }
-    // moves in another order, through a point, and of several checkers at once
-    for (const [position, roll, text, to] of [
-        ["0,0,0,1,0,0", 21, "2/1 4/2", [1, 0, 0, 0, 0, 0]], ["0,0,0,0,0,2", 11, "6/5/4(2)", [0, 0, 0, 2, 0, 0]], ["2,0,0,0,0,0", 66, "1/OFF(2)", [0, 0, 0, 0, 0, 0]],
-    ]) same(text, database.playTo(position, roll, text).to, to);
-    for (const [text, kind] of [["6/off 6/off 6/off 6/off 6/off", "malformed"], ["5/4", "RangeError"], ["1/2", "RangeError"], ["bar/6", "malformed"], ["", "malformed"]]) {
-        let told = "none";
-        try {
-            database.loss(mine, 21, text);
-        } catch (error) {
-            told = error.code ?? error.constructor.name;
-        }
-        equal(`the play ${text}`, told, kind);
-    }
     // one checker on the six point is off in one roll with 3/4; from the ace point always
     const wins = [[database.wins(xgid), database.wins(mine, theirs)], [database.wins([0, 0, 0, 0, 0, 1], "0,0,0,0,0,1"), "13/16"],
         [database.wins("0,0,0,0,0,1", "1,0,0,0,0,0"), "3/4"], [database.wins("1,0,0,0,0,0", "0,0,0,0,0,1", "theirs"), "1/4"]];
@@ -125,52 +121,101 @@ function compareLongest(database, bound) {
     equal(`the results of ${at}, by the line`, database.answer(`moves ${at} 11`), written(database, `moves ${at} 11`));
 }
 
-// Whole tables, beside the calls for one position, which were compared with the program's lines.
+// The number of so many words that stands at a place of a table.
+function wordsAt(table, place, words) {
+    let told = 0n;
+    for (let word = 0; word < words; word++) told = (told << 64n) | table[place + word];
+    return told;
+}
+
+function refusedWith(ask) {
+    try {
+        return `the answer ${ask()}`;
+    } catch (error) {
+        return error instanceof BearoffError ? error.code : error.constructor.name;
+    }
+}
+
+// Whole tables, beside the calls for one position, which were compared with the program's lines, and the sums of all shares.
 function compareTables(database, bound, asked) {
-    const count = database.positionCount;
-    const [positions, means, epcs, distributions] = ["positions", "means", "epcs", "distributions"].map((name) => database[name]());
-    for (const [name, table, each] of [["positions", positions, 6], ["means", means, 2], ["epcs", epcs, 5], ["distributions", distributions, 46]]) {
+    const [count, whole, words, rolls] = [database.positionCount, database.whole, ...(database.version === 3 ? [3, 34] : [2, 23])];
+    const lengths = { positions: 6, means: words, epcs: 2 * words + 1, distributions: rolls * words };
+    const tables = Object.fromEntries(Object.keys(lengths).map((name) => [name, database[name]()]));
+    for (const [name, table] of Object.entries(tables)) {
+        const each = lengths[name];
         equal(`how many ${name} of ${bound} pips`, table.length, each * count);
         for (const [first, some] of [[0, 1], [count - 1, 1], [7, Math.min(400, count - 7)], [count, 0], [3, 0]]) {
             equal(`${some} ${name} from ${first} on`, database[name](first, some).join(), table.slice(each * first, each * (first + some)).join());
         }
+        for (const [first, some] of [[0, count + 1], [count + 1, 0], [count, 1]]) equal(`${some} ${name} from ${first} on`, refusedWith(() => database[name](first, some)), "no-rank");
         equal(`${name} from 5 on`, database[name](5).length, each * (count - 5));
         const before = table[0];
         table[0] += typeof before === "bigint" ? 1n : 1;
         equal(`${name} are copies`, database[name](0, 1)[0], before);
         table[0] = before;
     }
-    const wide = (table, place) => (table[place] << 64n) | table[place + 1];
-    const [rolls, shares] = [asDoubles(means), asDoubles(distributions)];
+    const { positions, means, epcs, distributions } = tables;
+    const [doubles, shares] = [asDoubles(means), asDoubles(distributions)];
     for (const text of asked) {
         const position = number(text);
         const rank = database.rank(position);
         const name = `${text} in the tables of ${bound} pips`;
         equal(`${name}, the position`, positions.subarray(6 * rank, 6 * rank + 6).join(), text);
         const [mean, epc] = [database.mean(position), database.epc(position)];
-        equal(`${name}, the mean`, wide(means, 2 * rank) * mean.denominator, mean.numerator * WHOLE);
-        equal(`${name}, near the mean`, Math.abs(rolls[rank] - asNumber(mean)) <= 1e-15 * rolls[rank], true);
-        equal(`${name}, the effective pip count`, [wide(epcs, 5 * rank), wide(epcs, 5 * rank + 2), epcs[5 * rank + 4]].join(), [epc.numerator, epc.denominator, epc.thousandths].join());
+        equal(`${name}, the mean`, wordsAt(means, words * rank, words) * mean.denominator, mean.numerator * whole);
+        equal(`${name}, near the mean`, Math.abs(doubles[rank] - asNumber(mean)) <= 1e-15 * doubles[rank], true);
+        const place = (2 * words + 1) * rank;
+        equal(`${name}, the effective pip count`, [wordsAt(epcs, place, words), wordsAt(epcs, place + words, words), epcs[place + 2 * words]].join(),
+            [epc.numerator, epc.denominator, epc.thousandths].join());
         database.distribution(position).forEach((share, place) => {
-            equal(`${name}, the share of ${place}`, wide(distributions, 46 * rank + 2 * place), share.numerator);
-            equal(`${name}, near it`, Math.abs(shares[23 * rank + place] - asNumber(share)) <= 1e-15, true);
+            equal(`${name}, the share of ${place}`, wordsAt(distributions, words * (rolls * rank + place), words), share.numerator);
+            equal(`${name}, near it`, Math.abs(shares[rolls * rank + place] - asNumber(share)) <= 1e-15, true);
         });
     }
+    for (let rank = 0; rank < count; rank++) {
+        let sum = 0n;
+        for (let place = 0; place < rolls; place++) sum += wordsAt(distributions, words * (rolls * rank + place), words);
+        if (sum !== whole) wrong(`the shares of rank ${rank} add up to ${sum}`);
+    }
+    return tables;
 }
 
-for (const bound of process.argv.length > 5 ? process.argv.slice(5).map(Number) : [8, 44, 58]) {
+// To 58 pips a board says what a database says.
+async function compareWithDatabase(board, { positions, means, distributions }) {
+    const database = await Bearoff.open(bytesOf(FILES[58]));
+    const [count, more] = [database.positionCount, 36n ** 11n];
+    equal("the positions of 58 pips", positions.subarray(0, 6 * count).join(), database.positions().join());
+    const [itsMeans, itsShares] = [database.means(), database.distributions()];
+    for (let rank = 0; rank < count; rank++) {
+        if (wordsAt(means, 3 * rank, 3) !== wordsAt(itsMeans, 2 * rank, 2) * more) wrong(`the mean of rank ${rank} is not that of the database`);
+        for (let place = 0; place < 34; place++) {
+            const is = wordsAt(distributions, 102 * rank + 3 * place, 3);
+            if (is !== (place > 22 ? 0n : wordsAt(itsShares, 46 * rank + 2 * place, 2) * more)) wrong(`a share of rank ${rank} is not that of the database`);
+        }
+    }
+    for (let rank = 1; rank < count; rank += 463) {
+        const position = database.position(rank);
+        for (const roll of ["21", "11", "65"]) for (const name of ["play", "moves"]) {
+            equal(`${name} of ${position}`, JSON.stringify(board[name](position, roll)), JSON.stringify(database[name](position, roll)));
+        }
+    }
+    database.close();
+}
+
+for (const bound of process.argv.length > 5 ? process.argv.slice(5).map(Number) : [8, 44, 58, 90]) {
     const file = bytesOf(FILES[bound]);
     const built = await Bearoff.build(bound);
     equal(`the file of ${bound} pips`, Buffer.compare(Buffer.from(built.bytes()), file), 0);
     equal(`the bound of ${bound} pips`, built.bound, bound);
-    equal(`the version of ${bound} pips`, built.version, bound > 44 ? 2 : 1);
+    equal(`the version of ${bound} pips`, [built.version, built.whole].join(), [[1, 36n ** 22n], [2, 36n ** 22n], [3, 36n ** 33n]][(bound > 44) + (bound > 58)].join());
     equal("the version of the library", built.libraryVersion, version);
     built.close();
     const database = await Bearoff.open(file);
     if (bound > 8) compareTexts(database);
     const asked = compareLines(database, bound);
     for (const text of bound === 8 ? asked : [...asked].slice(0, 100)) comparePosition(database, text, number(text));
-    compareTables(database, bound, asked);
+    const tables = compareTables(database, bound, asked);
+    if (database.version === 3) await compareWithDatabase(database, tables);
     if (bound in LONGEST) compareLongest(database, bound);
     if (bound <= 44) {
         const upgraded = database.upgrade();

@@ -1,18 +1,15 @@
-// Board files in the package: they are built, opened beside databases by what their headers say, and asked by each call. What
-// they answer is compared with replies that were computed outside, with what the program writes of databases of 8 and 58
-// pips, and with itself in whole tables; and what has no answer is refused. boards.mjs PACKAGE PROGRAM FOLDER
+// Board files in the package: they are built, and opened beside databases by what their headers say; what they answer is
+// compared with replies that were computed outside, and what has no answer is refused. boards.mjs PACKAGE PROGRAM FOLDER
 import { spawnSync } from "node:child_process";
 import { mkdtempSync, readFileSync, rmSync, writeFileSync } from "node:fs";
 import { tmpdir } from "node:os";
 import { join } from "node:path";
-import { bytesOf, end, equal, linesOf, partOf, program, smallBoard, wrong } from "./given.mjs";
-import { nearest, number, walked, written } from "./written.mjs";
+import { bytesOf, end, equal, FILES, partOf, program, smallBoard, wrong } from "./given.mjs";
+import { written } from "./written.mjs";
 
-const { Bearoff, BearoffError, DamagedError, asDoubles, asNumber } = await partOf("bearoff.js");
+const { Bearoff, BearoffError, DamagedError, asDoubles } = await partOf("bearoff.js");
 const WHOLE = 36n ** 33n;
-const MORE = 36n ** 11n; // times the whole of a database
 const LAST = [0, 0, 0, 0, 0, 15];
-const ROLLS = [[2, 1], [1, 1], [6, 5], [6, 6]];
 
 // What a call is refused with: the code of a BearoffError, else the kind of error; or what it answered.
 function refusedWith(ask) {
@@ -21,134 +18,6 @@ function refusedWith(ask) {
     } catch (error) {
         return error instanceof BearoffError ? error.code : error.constructor.name;
     }
-}
-
-// What a database says of a line by its calls, and else why it says nothing.
-function said(database, line) {
-    try {
-        return written(database, line);
-    } catch (error) {
-        if (!(error instanceof BearoffError)) throw error;
-        return `error ${error.code}`;
-    }
-}
-
-// Each line by `answer` and by its own call.
-function compareLines(database, name, lines, replies) {
-    equal(`the replies of ${name}`, lines.length, replies.length);
-    lines.forEach((line, place) => {
-        equal(`${line}, ${name}`, database.answer(line), replies[place]);
-        if (replies[place] !== "error bad-line") equal(`${line}, ${name}, by its call`, said(database, line), replies[place]);
-    });
-}
-
-// What else is known of a position.
-function comparePosition(board, name, position) {
-    const [mean, epc] = [board.mean(position), board.epc(position)];
-    const pips = position.reduce((sum, count, place) => sum + count * (place + 1), 0);
-    equal(`${name}, the mean in thousandths`, mean.thousandths, nearest(mean));
-    equal(`${name}, the effective pip count in thousandths`, epc.thousandths, nearest(epc));
-    equal(`${name}, 49/6 pips a roll`, epc.numerator * 6n * mean.denominator, 49n * mean.numerator * epc.denominator);
-    equal(`${name}, the thousandths of the mean`, board.thousandths(mean), mean.thousandths);
-    equal(`${name}, wastage`, board.wastage(position).thousandths, epc.thousandths - 1000 * pips);
-    equal(`${name}, the pips`, board.standing(position).pips, pips);
-    equal(`${name}, its rank's position`, board.position(board.rank(position)).join(), position.join());
-    const shares = board.distribution(position);
-    equal(`${name}, how many shares`, shares.length, 34);
-    let [sum, rolls] = [0n, 0n];
-    shares.forEach(({ numerator, denominator }, place) => {
-        sum += numerator;
-        rolls += numerator * BigInt(place);
-        equal(`${name}, the whole`, denominator, WHOLE);
-        equal(`${name}, within ${place}`, board.within(position, place).thousandths, nearest({ numerator: sum, denominator: WHOLE }));
-    });
-    equal(`${name}, all shares`, sum, WHOLE);
-    equal(`${name}, within many`, board.within(position, 1000).thousandths, 1000);
-    equal(`${name}, the mean of the shares`, rolls * mean.denominator, mean.numerator * WHOLE);
-    for (const roll of pips > 0 ? ROLLS : []) {
-        const moves = board.moves(position, roll);
-        const played = board.play(position, roll);
-        equal(`${name}, a best play loses nothing`, board.loss(position, roll, played.to).numerator, 0n);
-        equal(`${name}, the play's moves`, walked(position, played.moves), played.to.join());
-        for (const [place, { to, loss }] of moves.entries()) {
-            const { numerator, denominator } = board.loss(position, roll, to);
-            equal(`${name}, the loss to ${to}`, `${numerator}/${denominator}`, `${loss.numerator}/${loss.denominator}`);
-            if (place > 0 && loss.numerator * moves[place - 1].loss.denominator < moves[place - 1].loss.numerator * loss.denominator) wrong(`${name}: ${to} comes after what loses more`);
-        }
-    }
-}
-
-// The number of so many words that stands at a place of a table.
-function wordsAt(table, place, words) {
-    let told = 0n;
-    for (let word = 0; word < words; word++) told = (told << 64n) | table[place + word];
-    return told;
-}
-
-// The whole tables, beside the calls for one position, and the sums of all shares.
-function compareTables(board) {
-    const count = board.positionCount;
-    const tables = { positions: 6, means: 3, epcs: 7, distributions: 102 };
-    const [positions, means, epcs, distributions] = Object.keys(tables).map((name) => board[name]());
-    for (const [name, table] of Object.entries({ positions, means, epcs, distributions })) {
-        const each = tables[name];
-        equal(`how many ${name}`, table.length, each * count);
-        for (const [first, some] of [[0, 1], [count - 1, 1], [count - 500, 400], [count, 0], [3, 0]]) {
-            equal(`${some} ${name} from ${first} on`, board[name](first, some).join(), table.slice(each * first, each * (first + some)).join());
-        }
-        equal(`the last ${name}`, board[name](count - 5).length, 5 * each);
-        for (const [first, some] of [[0, count + 1], [count + 1, 0], [count, 1]]) equal(`${some} ${name} from ${first} on`, refusedWith(() => board[name](first, some)), "no-rank");
-        const before = table[0];
-        table[0] = typeof before === "bigint" ? before + 1n : before + 1;
-        equal(`${name} are copies`, board[name](0, 1)[0], before);
-        table[0] = before;
-    }
-    const [rolls, shares] = [asDoubles(means), asDoubles(distributions)];
-    for (let rank = 0; rank < count; rank += rank === 0 ? 1 : 211) {
-        const name = `rank ${rank}`;
-        const position = board.position(rank);
-        equal(`${name}, its position`, positions.subarray(6 * rank, 6 * rank + 6).join(), position.join());
-        equal(`${name}, by the line`, board.answer(`rank ${position}`), `rank ${rank}`);
-        const [mean, epc] = [board.mean(position), board.epc(position)];
-        equal(`${name}, the mean`, wordsAt(means, 3 * rank, 3) * mean.denominator, mean.numerator * WHOLE);
-        equal(`${name}, near the mean`, Math.abs(rolls[rank] - asNumber(mean)) <= 1e-15 * rolls[rank], true);
-        equal(`${name}, the effective pip count`, [wordsAt(epcs, 7 * rank, 3), wordsAt(epcs, 7 * rank + 3, 3), epcs[7 * rank + 6]].join(), [epc.numerator, epc.denominator, epc.thousandths].join());
-        board.distribution(position).forEach((share, place) => {
-            equal(`${name}, the share of ${place}`, wordsAt(distributions, 102 * rank + 3 * place, 3), share.numerator);
-            equal(`${name}, near it`, Math.abs(shares[34 * rank + place] - asNumber(share)) <= 1e-15, true);
-        });
-    }
-    for (let rank = 0; rank < count; rank++) {
-        let sum = 0n;
-        for (let place = 0; place < 34; place++) sum += wordsAt(distributions, 102 * rank + 3 * place, 3);
-        if (sum !== WHOLE) wrong(`the shares of rank ${rank} add up to ${sum}`);
-        const text = positions.subarray(6 * rank, 6 * rank + 6).join();
-        if (rank % 10 === 0 && board.answer(`rank ${text}`) !== `rank ${rank}`) wrong(`${text} has not the rank ${rank}`);
-    }
-    return { positions, means, distributions };
-}
-
-// To 58 pips a board says what a database says.
-async function compareWithDatabase(board, { positions, means, distributions }) {
-    const database = await Bearoff.open(bytesOf("large.db"));
-    equal("the whole of a database", database.whole, 36n ** 22n);
-    const count = database.positionCount;
-    equal("the positions of 58 pips", positions.subarray(0, 6 * count).join(), database.positions().join());
-    const [itsMeans, itsShares] = [database.means(), database.distributions()];
-    for (let rank = 0; rank < count; rank++) {
-        if (wordsAt(means, 3 * rank, 3) !== wordsAt(itsMeans, 2 * rank, 2) * MORE) wrong(`the mean of rank ${rank} is not that of the database`);
-        for (let place = 0; place < 34; place++) {
-            const is = wordsAt(distributions, 102 * rank + 3 * place, 3);
-            if (is !== (place > 22 ? 0n : wordsAt(itsShares, 46 * rank + 2 * place, 2) * MORE)) wrong(`a share of rank ${rank} is not that of the database`);
-        }
-    }
-    for (let rank = 1; rank < count; rank += 463) {
-        const position = database.position(rank);
-        for (const name of ["mean", "epc", "wastage", "rank", "standing"]) equal(`${name} of ${position}`, JSON.stringify(board[name](position)), JSON.stringify(database[name](position)));
-        equal(`within 7 of ${position}`, board.within(position, 7).thousandths, database.within(position, 7).thousandths);
-        for (const roll of ROLLS) for (const name of ["play", "moves"]) equal(`${name} of ${position}`, JSON.stringify(board[name](position, roll)), JSON.stringify(database[name](position, roll)));
-    }
-    database.close();
 }
 
 // What has no answer.
@@ -248,29 +117,14 @@ async function compareBounds() {
 
 const eight = await smallBoard(8);
 await compareClosed(eight);
-const small = await Bearoff.open(eight);
-compareLines(small, "over a board of 8 pips", linesOf("questions_8"), linesOf("replies_8"));
-for (let rank = 0; rank < 64; rank++) comparePosition(small, `rank ${rank} of 8 pips`, small.position(rank));
-small.close();
 await compareDamages(eight);
 await compareBounds();
 
-const own = mkdtempSync(join(tmpdir(), "boards-"));
-equal("the program's board", spawnSync(program, ["build", "--board", join(own, "board.db")]).status, 0);
-const file = readFileSync(join(own, "board.db"));
-rmSync(own, { recursive: true });
-const built = await Bearoff.build(90);
-equal("the bytes of the whole board", Buffer.compare(Buffer.from(built.bytes()), file), 0);
-built.close();
-const board = await Bearoff.open(file);
-equal("the whole board", [board.bound, board.positionCount, board.version, board.whole].join(), [90, 54264, 3, WHOLE].join());
+const board = await Bearoff.open(bytesOf(FILES[90]));
 const rows = readFileSync(new URL("../../tests/board_rows.txt", import.meta.url), "utf8").trimEnd().split("\n");
-const [asked, told] = [0, 1].map((half) => rows.filter((_, place) => place % 2 === half));
-compareLines(board, "over the whole board", asked, told);
-const [lines, replies] = [linesOf("questions_58"), linesOf("replies_58")];
-const kept = lines.map((_, place) => place).filter((place) => place % 5 === 0 && replies[place] !== "error over-bound");
-compareLines(board, "of 58 pips", kept.map((place) => lines[place]), kept.map((place) => replies[place]));
-for (const line of asked.filter((row) => row.startsWith("mean"))) comparePosition(board, line, number(line.split(" ")[1]));
-await compareWithDatabase(board, compareTables(board));
+for (let row = 0; row < rows.length; row += 2) {
+    equal(rows[row], board.answer(rows[row]), rows[row + 1]);
+    equal(`${rows[row]}, by its call`, written(board, rows[row]), rows[row + 1]);
+}
 board.close();
 end();

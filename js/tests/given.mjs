@@ -1,5 +1,5 @@
 // What the tests of the package are given: the package as it was put down, the program, and a folder with its files eight,
-// race.db and large.db of 8, 44 and 58 pips, with questions_8, replies_8 and so on.
+// race.db, large.db and whole.board of 8, 44, 58 and 90 pips, with questions_8, replies_8 and so on.
 import { readdirSync, readFileSync } from "node:fs";
 import { join, resolve } from "node:path";
 import { pathToFileURL } from "node:url";
@@ -8,7 +8,7 @@ const [, , packageFolder, program, folder] = process.argv;
 
 export { program };
 
-export const FILES = { 8: "eight", 44: "race.db", 58: "large.db" };
+export const FILES = { 8: "eight", 44: "race.db", 58: "large.db", 90: "whole.board" };
 
 export const at = (name) => join(folder, name);
 export const bytesOf = (name) => readFileSync(at(name));
