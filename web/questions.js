@@ -1,6 +1,6 @@
 // The questions of a drill, drawn by a seed that stands in its link.
 import { FIRST, GREATEST, pipsOf, readPoints, sumOf } from "./points.js";
-import { isNamed, LEVELS, levelsOf, positions, themeOf } from "./themes.js";
+import { isNamed, ladderOf, LEVELS, levelsOf, positions, themeOf } from "./themes.js";
 
 export const QUESTIONS = 20; // of a drill
 export const TEN = 10; // of today's ten
@@ -41,9 +41,8 @@ export const drillOf = ({ theme, seed, ask, level, due }) => ({
     ...(due ? { due } : {}),
 });
 
-// How hard the new questions of a theme are that each day asks.
-export const dailyLevel = (theme) =>
-    (levelsOf({ theme, ask: "play" }).some(({ name }) => name === "mixed") ? "mixed" : "hard");
+// How hard the questions of a theme are that are like one which comes back.
+export const dailyLevel = (theme) => (ladderOf(theme).includes("mixed") ? "mixed" : "hard");
 
 // A seed as it is typed, or null.
 export const readSeed = (text) =>
@@ -165,6 +164,13 @@ export function drawQuestions(drill, rolls, playsOf) {
         }
         return ask !== "play" || decides(playsOf(one.points, one.roll)) ? [...asked, one] : asked;
     }, []);
-    const places = Array.from({ length: askedFor(drill) }, (_, place) => place);
-    return [...again, ...drawAt(places.slice(again.length), again, drill, rolls, playsOf)];
+    const { level = "any" } = drill;
+    const { steps = [[level, askedFor(drill)]] } = LEVELS.find(({ name }) => name === level);
+    // what a step doesn't find is any
+    return [...steps, ["any", steps.length > 1 ? askedFor(drill) : 0]].reduce((asked, [name, count]) => {
+        const most = Math.min(count, askedFor(drill) - asked.length);
+        const places = Array.from({ length: most }, (_, place) => asked.length + place);
+        return [...asked,
+            ...drawAt(places, asked, { ...drill, level: name }, rolls, playsOf)];
+    }, again);
 }

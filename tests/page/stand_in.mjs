@@ -300,8 +300,9 @@ export const playedBefore = ({ guesses, again, estimates, estimatesAgain }, play
 });
 
 // A drill whose rolls all have a play that loses something, and none as good as the best, which
-// fills a point and bears off fewer.
-export const drawFrom = (drill) => drawQuestions(drill, ROLLS, (points) => [
-    { isBest: true, to: points.map((count) => Math.max(1, count)), loss: 0n },
-        { isBest: false, to: [1, 0, 0, 0, 0, 0], loss: 30n },
-]);
+// fills a point and bears off fewer; in an easy one that bears off fewer, and loses much.
+export const drawFrom = (drill) => drawQuestions(drill, ROLLS, (points) => {
+    const plays = [{ to: points.map((count) => Math.max(1, count)) }, { to: [1, 0, 0, 0, 0, 0] }];
+    return (drill.level === "easy" ? plays.reverse() : plays).map((play, place) =>
+        ({ ...play, isBest: place === 0, loss: place === 0 ? 0n : drill.level === "easy" ? 90n : 30n }));
+});

@@ -5,7 +5,7 @@
 import assert from "node:assert/strict";
 import { test } from "node:test";
 import { readDraft, readPicks, writeDraft, writePicks } from "../../web/kept.js";
-import { LONGEST_CAPTION, MOST_KEPT, readLink, readTyped, START, writeLink } from "../../web/link.js";
+import { LONGEST_CAPTION, MOST_KEPT, PAGES, readLink, readTyped, START, writeLink } from "../../web/link.js";
 import {
     answered, BOXES, DAILY, dayOf, EMPTY, MOST_CARDS, MOST_DAYS, readMemory, Store, todays, todaysEstimates, written,
 } from "../../web/memory.js";
@@ -18,7 +18,7 @@ import { beginDraft, draftText, titleDraft, writeDraft as typeDraft } from "../.
 import { keep, setCaption } from "../../web/state/shelf.js";
 import { student } from "../../web/student.js";
 import { decimal } from "../../web/texts.js";
-import { levelsOf, THEMES } from "../../web/themes.js";
+import { LADDER, ladderOf, levelsOf, THEMES } from "../../web/themes.js";
 import { LONGEST_TEXT, readEstimate, readLessons, writeLesson } from "../../web/trainer.js";
 
 const SEED = Number(process.env.SEED) || 1 + (Date.now() % 1e9);
@@ -86,8 +86,8 @@ function answerFrom(draw, { cards }) {
     return {
         points, roll, theme,
         lost: draw.one([0, draw.number(0, 2000), draw.number(MOST_LOST - 1, 2 * MOST_LOST)]),
-        natural: draw.number(0, MOST_LOST),
-        isMissed: draw.is(), isLast: draw.is(),
+        random: draw.number(0, MOST_LOST), level: draw.one(LADDER),
+        isMissed: draw.is(), ten: draw.number(0, 900000),
     };
 }
 
@@ -99,9 +99,15 @@ function memoryText(draw) {
     };
     const once = (lines) => [...new Map(lines).values()];
     return [
-        "bearoff memory 3", `learnt ${draw.number(0, 9999999)}`,
+        "bearoff memory 4", `learnt ${draw.number(0, 9999999)}`,
         `sizes ${[1, 2, 3].map(() => draw.number(0, 9999999)).join(" ")}`,
         `rating ${draw.number(0, 999999999)} ${draw.number(0, 999999999)} ${draw.number(0, 9999999)}`,
+        ...once(draw.many(9, () => draw.number(1, 99)).map((lesson) => {
+            const asked = draw.number(0, 99);
+            return [lesson, `lesson ${lesson} ${draw.number(0, asked)} ${asked}`];
+        })),
+        ...once(draw.many(9, () => draw.one(played)).map((name) =>
+            [name, `level ${name} ${draw.one(ladderOf(name))} ${draw.one(["-", "1", "0".repeat(20)])}`])),
         ...once(draw.many(14, () => draw.one([...THEMES.map(({ name }) => name), ...ESTIMATED]))
             .map((name) => [name, `theme ${name} ${tally(999999999)}`])),
         ...once(draw.many(draw.one([9, MOST_DAYS + 9]), () => draw.number(0, 999999))
@@ -194,7 +200,7 @@ drawn("a link", (draw) => {
     const roll = draw.is() ? draw.one(ROLLS) : null;
     const drill = draw.is() ? drillFrom(draw) : null;
     const state = {
-        points: draw.points(), kept, title: readLink(`#${new URLSearchParams({ t: draw.text() })}`).title, roll,
+        page: "board", points: draw.points(), kept, title: readLink(`#${new URLSearchParams({ t: draw.text() })}`).title, roll,
         guess: draw.is(), bound: draw.one([44, 90]), isCompact: draw.is(), drill,
         place: drill ? draw.number(0, 98) : 0,
         estimate: draw.one([null, ...ESTIMATED]), lesson, text, step: draw.number(1, 60),
@@ -203,6 +209,9 @@ drawn("a link", (draw) => {
     const { isPlaced, faults, ...back } = readLink(link);
     assert.deepEqual([back, isPlaced, faults], [state, true, []]);
     assert.equal(writeLink(readLink(link)), link);
+    const page = draw.one(PAGES);
+    const there = writeLink({ ...state, page, drill: null, lesson: null, text: "" });
+    assert.deepEqual([there, readLink(there).page, readLink(there).faults], [`#${page}`, page, []]);
     if (drill?.due) assert.deepEqual(readDue(writeDue(drill.due), drill.ask), drill.due);
     assert.ok([state.title, ...kept.map(({ caption }) => caption)].every(({ length }) => length <= LONGEST_CAPTION));
 });

@@ -3,8 +3,8 @@ import { FIRST, GREATEST, pipsOf } from "../points.js";
 import { mostOf } from "../questions.js";
 import { hasValues } from "../trainer.js";
 import {
-    answerOf, byLoss, isTraining, keyOf, lengthOf, lessonOf, measuredOf, missKey, missOf,
-    questionOf, rollsOf, showsRules, spoken, spokenOfThem, theirAnswer,
+    answerOf, byLoss, keyOf, lengthOf, lessonOf, measuredOf, missKey, missOf, modeOf, questionOf,
+    rollsOf, showsRules, spoken, spokenOfThem, theirAnswer,
 } from "./reads.js";
 import { askNext, errorOf } from "./training.js";
 
@@ -50,7 +50,8 @@ export function wanted(state) {
     if (kept) return { kind: "ask", points: kept.points };
     const miss = missOf(state);
     if (miss && state.why?.key !== missKey(miss)) {
-        return { kind: "why", points, roll: miss.roll, to: miss.play.to, key: missKey(miss) };
+        const at = miss.at.split(",").map(Number);
+        return { kind: "why", points: at, roll: miss.roll, to: miss.play.to, key: missKey(miss) };
     }
     const { weights, measures } = state;
     if (showsRules(state) && !(measuredOf(state) && measures.weights === weights)) {
@@ -105,8 +106,9 @@ export function received(state, database, question, reply) {
         return { ...next, said: [next.said, more].filter(Boolean).join(" ") };
     }
     // what a lesson or a drill asks is heard before the numbers
-    const first = isTraining(state) ? state.said : "";
-    const then = state.roll && isTraining(state) ? "" : spoken(next);
+    const { trains } = modeOf(state);
+    const first = trains ? state.said : "";
+    const then = state.roll && trains ? "" : spoken(next);
     return { ...next, said: [first, then].filter(Boolean).join(" ") };
 }
 
