@@ -4,8 +4,10 @@ import { abilities } from "../js/abilities.js";
 import { boardActions } from "./actions/board.js";
 import { draftActions } from "./actions/draft.js";
 import { focusing } from "./actions/focus.js";
+import { gamesActions } from "./actions/games.js";
 import { shelfActions } from "./actions/shelf.js";
 import { studentActions } from "./actions/student.js";
+import { teacherActions } from "./actions/teacher.js";
 import { trainingActions } from "./actions/training.js";
 import { Client } from "./client.js";
 import { Past } from "./history.js";
@@ -22,6 +24,7 @@ import { asText, MOST_LESSONS, readLessons } from "./trainer.js";
 import { draw } from "./tree.js";
 import { view } from "./view.js";
 
+const MOST_SEED = 999999999;
 const LONG = 1500; // milliseconds that a button says what it did
 
 // The parts of a page by their ids. What a screen hasn't isn't in the document, where a comment keeps
@@ -86,10 +89,12 @@ function actionsOf(session, document, window, store) {
     const given = {
         session, document, window, store, ...focusing(document),
         change: (how, ...words) => session.change(how, ...words), today: () => today(window),
+        anySeed: () => 1 + Math.floor(Math.random() * MOST_SEED),
     };
     return {
         ...boardActions(given), ...trainingActions(given), ...studentActions(given),
-        ...draftActions(given), ...shelfActions(given),
+        ...draftActions(given), ...gamesActions(given), ...shelfActions(given),
+        ...teacherActions(given),
     };
 }
 
@@ -197,6 +202,10 @@ export function start(document, window, parts) {
 
     const take = (file) => {
         if (!file) return;
+        if (/\.(mat|sgf)$/i.test(file.name || "")) {
+            act.matchFile(file);
+            return;
+        }
         if (/\.txt$/i.test(file.name || "")) {
             // of one that is too long no more than says so
             file.slice(0, 4 * MOST_LESSONS + 1).text().then((text) => act.give(text));

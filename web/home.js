@@ -36,7 +36,13 @@ export const path = (state, act) => [
     h("h2", {}, "Path"),
     h("ol", { class: "rooms" }, ROOMS.map((one) => room(one, state, act))),
     h("h3", {}, "A drill of twenty"),
-    h("p", { class: "choices" },
+    chooser(state, () => act.drill(), button("begin drill", "Begin", () => act.drill())),
+    fault("seed-why", state.seedFault),
+];
+
+// The fields of a drill: its theme, what is asked, its level and its seed; Enter in the last does it.
+export function chooser(state, enter, ...more) {
+    return h("p", { class: "choices" },
         choice("theme", "Theme", THEMES.map(({ name, words }) => [name, words])),
         choice("asked", "Asked", Object.entries(ASKED)),
         choice("level", "Level", CHOSEN.map(({ name, words }) => [name, words])),
@@ -44,16 +50,16 @@ export const path = (state, act) => [
             type: "text", "data-key": "seed", inputmode: "numeric", autocomplete: "off",
             placeholder: "another",
             "aria-invalid": String(Boolean(state.seedFault)), "aria-describedby": "seed-why",
-            keydown: ({ key }) => { if (key === "Enter") act.drill(); },
-        })),
-        button("begin drill", "Begin", () => act.drill())),
-    fault("seed-why", state.seedFault),
-];
+            keydown: ({ key }) => { if (key === "Enter") enter(); },
+        })), more);
+}
 
 // Where else one can go.
 export const doors = (points) => h("div", { class: "doors" },
     h("a", { href: link({ at: points.join() }), "data-key": "free board", class: "door" },
         miniature(points), h("b", {}, "The board"),
         h("span", {}, "Any position, with its numbers and all its plays.")),
+    h("a", { href: "#games", "data-key": "your games", class: "door" },
+        h("b", {}, "Your games"), h("span", {}, "A match as a file: what you missed becomes questions.")),
     h("a", { href: "#teacher", "data-key": "teachers", class: "door" },
         h("b", {}, "For teachers"), h("span", {}, "Drills of your own, sheets, and results of a class.")));

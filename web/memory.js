@@ -139,9 +139,9 @@ function climbed(memory, { theme, level, isMissed }) {
 export function answered(memory, told, day) {
     const answer = { ...told, lost: Math.min(MOST_LOST, told.lost) };
     const { roll, lost, isMissed, ten } = answer;
-    const asked = cardOf(memory.cards, answer.card ?? answer);
-    const theme = asked ? asked.theme : answer.theme;
-    const cards = carded(memory.cards, asked, answer, day);
+    const card = cardOf(memory.cards, answer.card ?? answer);
+    const theme = card ? card.theme : answer.theme;
+    const cards = carded(memory.cards, card, answer, day);
     const isLearnt = cards.length < memory.cards.length;
     return {
         ...memory,
@@ -154,7 +154,7 @@ export function answered(memory, told, day) {
         sizes: memory.sizes.map((count, size) =>
             Math.min(MOST_COUNT, count + (roll && isMissed && size === sizeOf(lost) ? 1 : 0))),
         rating: roll ? rated(memory.rating, answer) : memory.rating,
-        levels: roll && !asked ? climbed(memory, answer) : memory.levels,
+        levels: roll && !card ? climbed(memory, answer) : memory.levels,
     };
 }
 
@@ -171,6 +171,13 @@ export function learnt(memory, [number, right, asked]) {
 
 // How much was answered on a day.
 export const askedOn = ({ days }, day) => days.find(([one]) => one === day)?.[1] ?? 0;
+
+// The memory with a question that comes back from a day on, unless it does already.
+export const asked = (memory, { points, roll, lost, theme }, day) =>
+    (cardOf(memory.cards, { points, roll, theme }) ? memory : {
+        ...memory,
+        cards: boundedCards([...memory.cards, { points, roll, theme, box: 0, due: day, lost }]),
+    });
 
 // Whether a day's ten are done.
 export const isDoneOn = ({ days }, day) => days.some(([one, , , tens]) => one === day && tens > 0);

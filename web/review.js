@@ -5,11 +5,9 @@ import { decimalOf } from "./fractions.js";
 import { link } from "./link.js";
 import { dicePicture, reasons } from "./panels.js";
 import { fittingLesson } from "./rooms.js";
-import { openedOf, reasonsFor, reviewed } from "./state/reads.js";
+import { openedOf, reasonsFor, reviewed, signed } from "./state/reads.js";
 import { decimal } from "./texts.js";
 import { h } from "./tree.js";
-
-const signed = (told) => (told < 0n ? `\u2212${decimal(-told)}` : decimal(told));
 
 // What was answered, what is right, and how far that is apart.
 const cellsOf = ({ guess, estimate }) => (guess

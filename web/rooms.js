@@ -42,7 +42,7 @@ export const drillOfLesson = (number, seed) =>
     drillOf({ ...LESSONS.find((one) => one.number === number).drill, seed });
 
 // The lesson whose drill one is, or null.
-export const lessonOfDrill = ({ theme, ask, level = "any", due }) => (due ? null
+export const lessonOfDrill = ({ theme, ask, level = "any", due, list }) => (due || list ? null
     : LESSONS.find(({ drill: own }) =>
         own.theme === theme && own.ask === ask && own.level === level)?.number ?? null);
 

@@ -46,6 +46,12 @@ export function begin(link, lessons = []) {
         answers: new Map(), // what the open database says of a position
         why: null, // and of a play that was guessed and loses: which one, and the sentences
         rolls: new Map(), // and of its 21 rolls
+        // A match that was given: what was read, and what its bearoff plays lost, once a database has
+        // graded them; why a text is none, and what was done with it
+        // The drill of a sheet for a class, with its questions and its key, once they are known; and
+        // why what was typed there is none, or what was done with it
+        sheet: null, sheetFault: "", sheetTold: "",
+        match: null, matchFault: "", matchTold: "",
         // The weights of one's own rule, why another one is none, and how far the rules of thumb
         // are off over the open database
         weights: ADDITIONS, weightFault: "", measures: null,

@@ -43,14 +43,13 @@ function answeredHere(state, verdict) {
 // How far a drill is: a mark for each question, which says whether it was right.
 function barOf(state) {
     const right = rightInEach(state);
-    const words = ["right", "missed", "asked"];
     const count = (is) => right.filter((one) => one === is).length;
     return h("p", {
         class: "bar-of", role: "img",
         "aria-label": `Of ${right.length}: ${count(true)} right, ${count(false)} missed`,
     }, right.map((one, place) => h("span", {
-        class: [one === null ? "" : words[one ? 0 : 1], place === state.place ? "now" : ""]
-            .join(" ").trim() || null,
+        class: [one !== null && (one ? "was-right" : "was-missed"), place === state.place && "now"]
+            .filter(Boolean).join(" ") || null,
     })));
 }
 
@@ -136,8 +135,9 @@ export function drillTitle(drill) {
 
 // What a drill is drawn by, and where it has fewer questions than it asks for.
 function drawnBy({ drill, questions }) {
-    const { seed, theme, due } = drill;
-    const how = !due ? `Seed ${seed}.`
+    const { seed, theme, due, list } = drill;
+    const how = list ? `${list.length} positions.`
+        : !due ? `Seed ${seed}.`
         : due.length === 0 ? `Ten that are new: ${themeOf(theme).words}.`
         : `${counted(drill)}${due.length < TEN ? `: ${themeOf(theme).words}` : ""}.`;
     const [found, wanted] = [questions?.length, askedFor(drill)];
@@ -213,29 +213,37 @@ export function steering(state, making, act) {
     ];
 }
 
-// A drill as it is printed: each question with its board and a line to write on, and then what was
-// answered, with the score once it is over.
+// A sheet of a drill: a line for the name, and each question with its board and a line to write on.
+const sheet = ({ drill, questions }) => [
+    h("h2", {}, drillTitle(drill)),
+    h("p", { class: "name-line" }, "Name"),
+    h("p", {}, `${drawnBy({ drill, questions })} `,
+        drill.ask === "play" ? "Which play is best?" : askedOf(drill, null)),
+    h("ol", { class: "steps-printed drill-printed" },
+        (questions || []).map(({ points, roll }) => h("li", {},
+            lookedAt(points, []),
+            h("p", { class: "line" }, roll && dicePicture(roll))))),
+];
+
+const answers = (name, told, ...more) => h("div", { class: "answers-printed" },
+    h("h3", {}, name), h("ol", {}, told.map((text) => h("li", {}, text || "\u2013"))), more);
+
+// A drill as it is printed: its sheet, and then what was answered, with the score once it is over.
 function printedDrill(state) {
-    const { drill, questions } = state;
-    const told = (questions || []).map((question) => answeredIn(state, question));
+    const told = (state.questions || []).map((question) => answeredIn(state, question));
     return [
-        h("h2", {}, drillTitle(drill)),
-        h("p", {}, `${drawnBy(state)} `,
-            drill.ask === "play" ? "Which play is best?" : askedOf(drill, null)),
-        h("ol", { class: "steps-printed drill-printed" },
-            (questions || []).map(({ points, roll }) => h("li", {},
-                lookedAt(points, []),
-                h("p", { class: "line" }, roll && dicePicture(roll))))),
-        told.some(Boolean) && h("div", { class: "answers-printed" },
-            h("h3", {}, "Answers"),
-            h("ol", {}, told.map((text) => h("li", {}, text || "\u2013"))),
-            questions.length > 0 && !questionOf(state) && score(state)),
+        sheet(state),
+        told.some(Boolean) && answers("Answers", told,
+            state.questions.length > 0 && !questionOf(state) && score(state)),
     ];
 }
 
 // The whole lesson or drill as it is printed: each step with its board, and the answers at the end.
 export function printed(state) {
     const lesson = lessonOf(state);
+    if (modeOf(state).screen === "teacher") {
+        return state.sheet?.key ? [sheet(state.sheet), answers("Key", state.sheet.key)] : [];
+    }
     if (!lesson) return state.drill ? printedDrill(state) : [];
     const steps = lesson.steps.map((_, place) => toldStep(state, place));
     return [

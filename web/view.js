@@ -6,6 +6,7 @@ import { inWords, pipsOf } from "./points.js";
 import { h } from "./tree.js";
 import { board, compared, played, watched } from "./board.js";
 import { editor } from "./editor.js";
+import { games } from "./games.js";
 import { doors, path } from "./home.js";
 import {
     chances, COMING, kept, numbers, plays, reasons, rolls, sides, verdict,
@@ -28,7 +29,8 @@ import {
 const ASKS = ["coach", "steering", "top", "right", "chances", "rolls", "reasons", "worth", "printed"];
 const SCREENS = {
     home: ["today", "path", "doors", "promise", "foot"],
-    teacher: ["teaching", "promise", "foot"],
+    games: ["games", "promise", "foot"],
+    teacher: ["teaching", "printed", "promise", "foot"],
     board: [
         "top", "coach", "setting", "how", "right", "chances", "rolls", "heading", "next-best",
         "grid", "keeping", "editing", "more", "promise", "tools", "foot",
@@ -52,6 +54,7 @@ const trainedOf = (state, { trains, screen }) => (!trains ? ["", "", screen]
 // What the window is called: the screen, what one trains, or the position.
 function titleOf(state, { screen }) {
     if (screen === "home") return "Bearing off, proved";
+    if (screen === "games") return "Your games \u2013 Bearing off";
     if (screen === "teacher") return "For teachers \u2013 Bearing off";
     const lesson = stepOf(state) && lessonOf(state);
     const what = lesson ? `Step ${state.step} of ${lesson.steps.length}: ${lesson.title}`
@@ -109,6 +112,7 @@ export function view(state, act) {
             today: on("home") ? student(state, act) : [],
             path: on("home") ? path(state, act) : [],
             doors: on("home") ? doors(points) : [],
+            games: on("games") ? games(state, act) : [],
             teaching: on("teacher") ? teaching(state, act) : [],
             more: on("board") ? more(state, act) : [],
             numbers: !has("right") || away.right ? []

@@ -17,6 +17,7 @@ import { begin } from "../../web/state.js";
 import { giveEstimate } from "../../web/state/training.js";
 import { drawQuestions, drillOf, mostOf, numbersFrom, kindsOf } from "../../web/questions.js";
 import { isNamed, LEVELS, levelsOf, positions, THEMES } from "../../web/themes.js";
+import { readResults } from "../../web/results.js";
 import { meanOf, readEstimate, readLessons, writeLesson } from "../../web/trainer.js";
 import { drawn } from "../../web/worker.js";
 import { thumb } from "../../web/training.js";
@@ -2340,7 +2341,7 @@ async function reasons() {
 
 // Which parts of the page are in the document on each screen, and how one goes from one to the other.
 async function screens() {
-    const PARTS = ["coach", "steering", "review", "today", "path", "doors", "teaching", "top", "setting", "how", "right",
+    const PARTS = ["coach", "steering", "review", "today", "path", "doors", "games", "teaching", "top", "setting", "how", "right",
         "rolls", "heading", "grid", "keeping", "editing", "more", "printed", "promise", "tools", "foot", "whole"];
     const there = (used) => PARTS.filter((name) => used.document.getElementById(name)).join(" ");
     const on = (used) => modeOf(used.session.state).screen;
@@ -2349,7 +2350,7 @@ async function screens() {
     part = "what is on each screen";
     for (const [hash, screen, parts] of [
         ["", "home", "today path doors promise foot"], ["#home", "home", "today path doors promise foot"],
-        ["#teacher", "teacher", "teaching promise foot"], ["#at=2,2,2,2,2,2", "board", FREE],
+        ["#games", "games", "games promise foot"], ["#teacher", "teacher", "teaching printed promise foot"], ["#at=2,2,2,2,2,2", "board", FREE],
         ["#p=1,0,0,0,0,0", "board", FREE.replace("grid", "grid keeping")],
         ["#view=board&at=1,0,0,0,0,0", "embedded", "top right whole"],
         ["#lesson=1", "step", "coach steering top rolls printed"],
@@ -2378,8 +2379,7 @@ async function screens() {
         equal(`the verdict of ${place}`, [on(used), used.document.querySelector("#coach .verdict").textContent.includes(
             place === 3 ? "loses 0.056" : "is best")], ["verdict", true]);
         equal(`the bar at ${place}`, [...used.document.querySelectorAll(".bar-of span")].map((one) =>
-            one.className.split(" ")[0]).join(""), `${"right".repeat(Math.min(3, place + 1))}${place > 2 ? "missed" : ""
-        }${place > 3 ? "right" : ""}${""}`);
+            one.className.split(" ")[0]).join(""), ["was-right", "was-right", "was-right", "was-missed", "was-right"].slice(0, place + 1).join(""));
         await used.clicked("next question");
     }
     equal("what was missed is asked again", on(used), "question");
@@ -2926,7 +2926,9 @@ async function results() {
     used.find("result name").value = "  Ada\n  L. ";
     await used.clicked("copy result");
     await settled();
-    const text = `bearoff result 1\ndrill all 7 play hard\nname Ada L.\nlost 56 56 - 56${" 0".repeat(16)}`;
+    const played = questions.map(({ roll: [high, low] }, place) => (place === 2 ? "-"
+        : place < 4 ? `${high}/1 ${low}/2` : `${high}/off ${low}/0`)).join(", ");
+    const text = `bearoff result 1\ndrill all 7 play hard\nname Ada L.\nlost 56 56 - 56${" 0".repeat(16)}\nplayed ${played}`;
     equal("its text", [used.window.copied, used.text("coach").includes("The result is copied: send it back.")],
         [text, true]);
     used.window.navigator.clipboard.writeText = async () => { throw new Error("denied"); };
@@ -2956,7 +2958,8 @@ async function results() {
     await told.clicked("copy result");
     await settled();
     equal("of estimates", told.window.copied,
-        `bearoff result 1\ndrill ace 7 pips any\nname Cy\nlost 0 1000 2000${" -".repeat(12)}`);
+        `bearoff result 1\ndrill ace 7 pips any\nname Cy\nlost 0 1000 2000${" -".repeat(12)}\nplayed ${[0, 1, 2].map((place) =>
+            `${told.session.state.questions[place].points[0] + place}.000`).join(", ")}${", -".repeat(12)}`);
 
     part = "a class";
     const one = (name, lost, drill = "all 7 play hard") =>
@@ -2968,33 +2971,42 @@ async function results() {
         tell(field(), "change");
         await told.worker.answerAll();
     };
-    const rows = () => [...told.document.querySelectorAll(".pupils tbody tr")].map((row) =>
+    const rows = () => [...told.document.querySelectorAll(".pupils:not(.questions) tbody tr")].map((row) =>
             [...row.childNodes].map((node) => node.textContent).join(" "));
     equal("nothing yet", [rows(), told.text("results-why"), told.at("results-why").getAttribute("role")],
         [[], "", "alert"]);
     await give(`Dear teacher,\n\n${one("Ada L.", "56 0 - 0")}\n\nBye\n${one("Bo", "0 0 20 1")}\r\n${one("<i>Cy</i>", "0 70 20 7")}`);
     equal("who answered most and lost least first", rows(),
         ["Bo 4 2 0.021", "<i>Cy</i> 4 3 0.097", "Ada L. 3 1 0.056"]);
-    const missed = () => [...told.at("teaching").querySelectorAll(".class a")].map((node) => [node.textContent,
-            readLink(node.getAttribute("href")).place, readLink(node.getAttribute("href")).drill.level]);
-    equal("which questions most have missed",
-        [missed(), told.at("teaching").querySelector(".class")
-            .textContent.includes("Missed most: question 3 by 2 of 3, question 4 by 2 of 3, question 1 by 1 of 3, question 2 by 1 of 3.")],
-        [[["question 3", 2, "hard"], ["question 4", 3, "hard"], ["question 1", 0, "hard"], ["question 2", 1, "hard"]],
-            true]);
+    const missed = () => [...told.at("teaching").querySelectorAll(".class a")].map((node) => [
+        [...node.parentNode.parentNode.children].map((cell) => cell.textContent).join(" "),
+        readLink(node.getAttribute("href")).place, readLink(node.getAttribute("href")).drill.level]);
+    equal("which questions most have missed", missed(), [["Question 3 2 of 3 \u2013", 2, "hard"],
+        ["Question 4 2 of 3 \u2013", 3, "hard"], ["Question 1 1 of 3 \u2013", 0, "hard"],
+        ["Question 2 1 of 3 \u2013", 1, "hard"]]);
+    const plays = (name, ...all) => one(name, all.map((text) => (text === "6/off" ? "0" : "56")).join(" ")).concat(
+        `\nplayed ${all.join(", ")}`);
+    await give([plays("Ada", "6/off", "5/1 4/2"), plays("Bo", "6/off", "6/off"), plays("Cy", "6/off", "5/1 4/2")].join("\n"));
+    equal("what was played by whom", missed().map(([text]) => text),
+        ["Question 2 2 of 3 6/off (best): Bo; 5/1 4/2 (\u22120.056): Ada, Cy", "Question 1 0 of 3 6/off (best): Ada, Bo, Cy"]);
+    equal("of a list too", [readResults(`bearoff result 1\ndrill all 1 play any\nlist 1,1,0,0,0,0,21\nname A\nlost 0`).results[0]
+        .drill, readResults(plays("A", "6/7")).fault, readResults(`${plays("A", "6/off")}, 6/off`).fault],
+    [{ theme: "all", seed: 1, ask: "play", list: [{ points: [1, 1, 0, 0, 0, 0], roll: [2, 1] }] },
+        "Line 5 can't be read.", "Result 1 is not whole."]);
+    await give(one("Ada", "56 0"));
     equal("of which drill", told.at("teaching").querySelector(".pupils caption").textContent,
         "Drill: All positions, Play, hard");
     await give(one("Ada", "999 1000 0", "few 3 effective any"));
     equal("estimates that are a pip off are missed",
         [rows(), missed().map(([name]) => name),
         told.at("teaching").querySelector(".pupils").textContent.includes("lost, in pips")],
-        [["Ada 3 1 1.999"], ["question 2"], true]);
+        [["Ada 3 1 1.999"], ["Question 2 1 of 1 \u2013"], true]);
     await give(one("Ada", "0 0"));
     equal("nothing missed", [rows(), missed()], [["Ada 2 0 0.000"], []]);
     for (const [words, why] of [
         ["hello", "There is no result in it."], [one("", "0"), "Line 3 can't be read."],
             [one("A", "x"), "Line 4 can't be read."], [one("A", "0 -1"), "Line 4 can't be read."],
-        [one("A", "0 ".repeat(21).trim()), "Line 4 can't be read."],
+        [one("A", "0 ".repeat(61).trim()), "Line 4 can't be read."],
             [one("A", "0", "all 7 play harder"), "Line 2 can't be read."],
             [one("A", "0", "nowhere 7 play any"), "Line 2 can't be read."],
         [one("A", "0", "all 7 play any more"), "Line 2 can't be read."],

@@ -9,8 +9,8 @@ import { LONGEST_CAPTION, MOST_KEPT, PAGES, readLink, readTyped, START, writeLin
 import {
     answered, BOXES, DAILY, dayOf, EMPTY, MOST_CARDS, MOST_DAYS, readMemory, Store, todays, todaysEstimates, written,
 } from "../../web/memory.js";
-import { ASKED, drillOf, ESTIMATED, MOST_LOST, QUESTIONS, readDue, TEN, writeDue } from "../../web/questions.js";
-import { readResults, writeResult } from "../../web/results.js";
+import { ASKED, drillOf, ESTIMATED, MOST_LISTED, MOST_LOST, QUESTIONS, readDue, TEN, writeDue } from "../../web/questions.js";
+import { classOf, readResults, writeResult } from "../../web/results.js";
 import { ROLLS } from "../../web/rolls.js";
 import { readWeight } from "../../web/rules.js";
 import { begin, picksOf, withPicks } from "../../web/state.js";
@@ -71,6 +71,11 @@ function drillFrom(draw, hasDue = draw.is()) {
         points: draw.points(1), roll: ask === "play" ? draw.one(ROLLS) : null,
         ...(ask === "play" && draw.is() ? { theme: draw.one(played) } : {}),
     })) : null;
+    if (!hasDue && draw.below(4) === 0) {
+        const list = Array.from({ length: 1 + draw.below(MOST_LISTED) }, () =>
+            ({ points: draw.points(1), roll: ask === "play" ? draw.one(ROLLS) : null }));
+        return drillOf({ ask, list });
+    }
     const level = draw.one(levelsOf({ theme, ask })).name;
     return drillOf({ theme, seed: draw.number(1, 999999999), ask, level, due });
 }
@@ -177,10 +182,11 @@ drawn("the results of a class", (draw) => {
     const [drill, count] = [drillFrom(draw, false), 1 + draw.below(QUESTIONS)];
     const pupils = Array.from({ length: 1 + draw.below(5) }, () => ({
         name: `${draw.text()}n${draw.text()}`,
+        played: Array.from({ length: count }, () => draw.one([null, "6/off", "6/2 5/off(2)", "\u221210.500", "51.000"])),
         lost: Array.from({ length: count }, () =>
             draw.one([null, 0, draw.number(0, 3000), draw.number(0, 3 * MOST_LOST)])),
     }));
-    const texts = pupils.map(({ name, lost }) => writeResult(drill, name, lost));
+    const texts = pupils.map(({ name, lost, played: plays }) => writeResult(drill, name, lost, plays));
     const { results, fault } = readResults(texts.join(draw.one(["\n", "\n\nDear teacher,\n", "\r\n"])));
     assert.equal(fault, "");
     results.forEach((result, place) => {
@@ -188,8 +194,14 @@ drawn("the results of a class", (draw) => {
         assert.deepEqual(result.lost, pupils[place].lost.map((lost) =>
             (lost === null ? null : Math.min(lost, MOST_LOST))));
         // the same again
-        assert.equal(writeResult(result.drill, result.name, result.lost), texts[place]);
+        assert.equal(writeResult(result.drill, result.name, result.lost,
+            result.played.map((one) => (one === "-" ? null : one))), texts[place]);
     });
+    // of each question who played what
+    for (const { place, played: plays } of classOf(results).questions) {
+        assert.equal(plays.reduce((sum, { names }) => sum + names.length, 0),
+            pupils.filter(({ played: [...all] }) => all[place] !== null).length);
+    }
 });
 
 drawn("a link", (draw) => {

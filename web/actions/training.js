@@ -1,18 +1,15 @@
 // What is done where one trains: in a lesson, a drill and an estimate, and with a class's results.
 import { writeResult } from "../results.js";
 import { drillOfLesson } from "../rooms.js";
-import { lostInEach } from "../state/reads.js";
+import { lostInEach, playedInEach } from "../state/reads.js";
 import {
     askNext, beginDrill, chooseDrill, endTraining, giveEstimate, giveLesson, giveResults, goToStep,
     openAnswer, openMiss, resetGuesses, setEstimate, setGuess, tellResult, weigh,
 } from "../state/training.js";
 
-const MOST_SEED = 999999999;
-
 export function trainingActions({
-    session, change, document, window, focus, focusOn, onBoard, isWithin,
+    session, change, document, window, focus, focusOn, onBoard, isWithin, anySeed,
 }) {
-    const anySeed = () => 1 + Math.floor(Math.random() * MOST_SEED);
     return {
         guess: (isOn) => change(setGuess, isOn),
         answer() {
@@ -70,7 +67,7 @@ export function trainingActions({
                 focusOn(["result name"], "coach");
                 return;
             }
-            const text = writeResult(drill, name, lostInEach(session.state));
+            const text = writeResult(drill, name, lostInEach(session.state), playedInEach(session.state));
             const told = await window.navigator.clipboard.writeText(text)
                 .then(() => "The result is copied: send it back.",
                 () => `The browser lets this page copy nothing. The result: ${text}`);

@@ -14,11 +14,11 @@ export const firstBound = ({ points }) => (pipsOf(points) > FIRST ? GREATEST : F
 // Whether something on the page needs the whole board: a position, a step of the lesson, the drill,
 // or the link.
 export function needsMore(state) {
-    const { database, drill, kept, theirs } = state;
+    const { database, drill, kept, theirs, match, sheet } = state;
     if (!database || database.bound >= GREATEST) return false;
-    return state.bound === GREATEST || Boolean(drill && database.bound < mostOf(drill))
+    return state.bound === GREATEST || [drill, sheet?.drill].some((one) => one && database.bound < mostOf(one))
         || Boolean(theirs && pipsOf(theirs) > database.bound)
-        || [state, ...kept, ...(lessonOf(state)?.steps || [])]
+        || [state, ...kept, ...(lessonOf(state)?.steps || []), ...(match?.turns || [])]
             .some(({ points }) => pipsOf(points) > database.bound);
 }
 
@@ -63,6 +63,11 @@ export function wanted(state) {
         const steps = lesson.steps.map(({ points: at, roll }) => ({ points: at, roll }));
         return { kind: "fill", lesson, steps };
     }
+    const { match, sheet } = state;
+    if (sheet && !sheet.questions && state.database.bound >= mostOf(sheet.drill)) {
+        return { kind: "sheet", sheet, drill: sheet.drill };
+    }
+    if (match && match.database !== state.database) return { kind: "grade", match, turns: match.turns };
     const { drill, questions, picks } = state;
     if (!drill || state.database.bound < mostOf(drill)) return null;
     if (!questions) return { kind: "draw", drill };
@@ -92,6 +97,14 @@ export function received(state, database, question, reply) {
     if (question.kind === "why") return { ...state, why: { key: question.key, says: reply } };
     if (question.kind === "fill") {
         return { ...state, filled: { lesson: question.lesson, database, values: reply } };
+    }
+    if (question.kind === "sheet") {
+        return state.sheet === question.sheet
+            ? { ...state, sheet: { ...question.sheet, ...reply } } : state;
+    }
+    if (question.kind === "grade") {
+        const { match } = question;
+        return state.match === match ? { ...state, match: { ...match, ...reply, database } } : state;
     }
     if (question.kind === "measure") {
         return { ...state, measures: { ...reply, database, weights: question.weights } };

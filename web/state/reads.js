@@ -90,7 +90,7 @@ function modeFrom(state) {
     const guess = answersFor(state[round.guesses], state, state.roll);
     const estimate = state[round.estimates].find(({ at, kind }) =>
         at === keyOf(state.points) && kind === estimated);
-    const asksNumber = step?.answer && !step.roll && !step.estimate && !state.isAnswered
+    const isAsked = step?.answer && !step.roll && !step.estimate && !state.isAnswered
         && hasItsBoard(state);
     const isOpen = estimate || (isOn && step?.estimate && state.isAnswered)
         || knownOf(state)?.refusal;
@@ -101,7 +101,7 @@ function modeFrom(state) {
         screen, round, estimated, trains: TRAINING.includes(screen),
         hidden: {
             plays: state.guess && !guess,
-            numbers: asksNumber ? "answer" : estimated && !isOpen ? "estimate" : null,
+            numbers: isAsked ? "answer" : estimated && !isOpen ? "estimate" : null,
         },
     };
 }
@@ -326,6 +326,10 @@ export function answeredIn({ drill, guesses, estimates }, { points, roll }) {
 export const lostInEach = (state) => ofEach(state, ({ guess, estimate }) =>
     Number(guess ? guess.play.loss : estimate.error));
 
+// What each answer was, as a text, or null.
+export const playedInEach = (state) => ofEach(state, ({ guess, estimate }) =>
+    (guess ? guess.play.text : signed(estimate.told)));
+
 // Whether each answer of the drill was right, or null where a question wasn't answered.
 export const rightInEach = (state) => ofEach(state, ({ isRight }) => isRight);
 
@@ -373,8 +377,8 @@ export const askedIn = (state) =>
     `${whichOf(state)}. ${askedOf(state.drill, questionOf(state).roll)}`;
 
 // A drill by its words, which are in the links of all who are asked the same.
-export const drillKey = ({ theme, seed, ask, level = "any", due }) =>
-    [theme, seed, ask, level, ...(due ? [writeDue(due)] : [])].join();
+export const drillKey = ({ theme, seed, ask, level = "any", due, list }) =>
+    [theme, seed, ask, level, ...(due || list ? [writeDue(due || list)] : [])].join();
 
 // Whether the step of a lesson is about a rule of thumb, and so shows what each is worth.
 export const showsRules = (state) => modeOf(state).trains && Boolean(stepOf(state)?.rule);
@@ -387,7 +391,7 @@ export const measuredOf = ({ measures, database }) =>
 export const toldOf = ({ told, error }) =>
     `You said ${signed(told)}: ${decimal(error)} pips off.`;
 
-const signed = (told) => (told < 0n ? `\u2212${decimal(-told)}` : decimal(told));
+export const signed = (told) => (told < 0n ? `\u2212${decimal(-told)}` : decimal(told));
 
 // The mean of all errors of what is estimated now, in thousandths, or null where there are none.
 export function meanError(state) {
