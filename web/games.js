@@ -33,8 +33,7 @@ const row = ({ game, move, player, points, dice, play, best, choices }, names) =
                 : `${decimalOf(play.exact)} rolls, ${decimalOf(inPips(play.exact))} pips`))));
 
 export function games(state, act) {
-    const { match, matchFault, matchTold } = state;
-    const why = matchFault || match?.fault;
+    const { match, matchFault: why, matchTold } = state;
     const isKnown = match?.rows && !why;
     return [
         h("h2", {}, "Your games"),

@@ -20,7 +20,7 @@ function noReply({ kind }, { bound }, refusal) {
     return {
         ask: { refusal, status: 0, standing: null, bound }, rolls: [], draw: [],
         again: { plays: [], answers: [] }, why: null, measure: { count: 0, rows: [] }, fill: [],
-        grade: { rows: [], fault: refusal }, sheet: { questions: [], key: [] },
+        grade: { rows: [], fault: ["malformed", 1, refusal] }, sheet: { questions: [], key: [] },
     }[kind];
 }
 

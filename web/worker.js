@@ -2,7 +2,6 @@
 import { Database } from "../js/database.js";
 import { BearoffError } from "../js/errors.js";
 import { chancesOf, choicesOf, playsOf, roundedOf } from "./answers.js";
-import { BadMatch } from "./matches.js";
 import { ROLLS } from "./rolls.js";
 import { measured } from "./rules.js";
 import { REFUSALS } from "./texts.js";
@@ -98,11 +97,11 @@ export function graded(database, turns) {
         const play = plays.find((one) => one.to.join() === to.join());
         if (!play) {
             const what = `no play of ${dice.join("")} leads from ${points} to ${to}`;
-            return { rows: [], fault: new BadMatch("illegal", line, what, text).message };
+            return { rows: [], fault: ["illegal", line, what, text] };
         }
         rows.push({ play, best: plays.find(({ isRecorded }) => isRecorded), choices: plays.length });
     }
-    return { rows, fault: "" };
+    return { rows, fault: null };
 }
 
 // Every position with a checker, and its effective pip count in thousandths.

@@ -1,5 +1,6 @@
 // What is asked of the open database, what its replies change, and databases that come and go.
 import { FIRST, GREATEST, pipsOf } from "../points.js";
+import { BadMatch } from "../matches.js";
 import { mostOf } from "../questions.js";
 import { hasValues } from "../trainer.js";
 import {
@@ -104,7 +105,9 @@ export function received(state, database, question, reply) {
     }
     if (question.kind === "grade") {
         const { match } = question;
-        return state.match === match ? { ...state, match: { ...match, ...reply, database } } : state;
+        const matchFault = reply.fault ? new BadMatch(...reply.fault).message : "";
+        return state.match !== match ? state
+            : { ...state, matchFault, match: { ...match, rows: reply.rows, database } };
     }
     if (question.kind === "measure") {
         return { ...state, measures: { ...reply, database, weights: question.weights } };

@@ -8,7 +8,7 @@ export function giveMatch(state, text) {
     const next = { ...state, page: "games", matchTold: "" };
     try {
         const match = readMatch(text);
-        return { ...next, match: { ...match, turns: bearoffs(match), rows: null, fault: "" },
+        return { ...next, match: { ...match, turns: bearoffs(match), rows: null },
             matchFault: "" };
     } catch (error) {
         if (!(error instanceof BadMatch)) throw error;

@@ -2,14 +2,13 @@
 import { readTyped } from "../link.js";
 import { drillOf, MOST_LISTED } from "../questions.js";
 
-const ROLL = /^(.*\S)[\s:]+([1-6])-?([1-6])\s*$/;
+const ROLL = /^(.*\S)\s+([1-6])-?([1-6])\s*$/;
 
-// A position of a line, with its roll behind it where the text of the position has none.
+// A position of a line, with the roll behind it, or that of its text.
 function readLine(line) {
     const [, front, ...dice] = ROLL.exec(line) || [];
     const split = front && readTyped(front);
-    const { points, roll, fault } = split && !split.fault && !split.roll
-        ? { ...split, roll: dice.map(Number) } : readTyped(line);
+    const { points, roll, fault } = split && !split.fault ? { ...split, roll: dice.map(Number) } : readTyped(line);
     return { points, fault, roll: roll && [...roll].sort((one, other) => other - one) };
 }
 
