@@ -77,6 +77,6 @@ export const WORDS = [
             + "six bears off from the ace point."],
 ];
 
-// Those of them that are in one of some texts.
-export const wordsIn = (...texts) =>
-    WORDS.filter(([, pattern]) => texts.some((text) => pattern.test(text)));
+// Those of them that are in one of some texts, and in none of others that came before.
+export const wordsIn = (texts, before = []) => WORDS.filter(([, pattern]) =>
+    texts.some((text) => pattern.test(text)) && !before.some((text) => pattern.test(text)));

@@ -6,6 +6,7 @@ import { COMING, dicePicture } from "./panels.js";
 import { comesBack, counted } from "./student.js";
 import { button, fault, h } from "./tree.js";
 import { ASKED, askedFor, drillName, ESTIMATED, mostOf, TEN, WANTED } from "./questions.js";
+import { wordsIn } from "./rooms.js";
 import { isMiss, OWN, WEIGHTS } from "./rules.js";
 import { LEVELS, themeOf } from "./themes.js";
 import { meanOf } from "./trainer.js";
@@ -53,14 +54,27 @@ function barOf(state) {
     })));
 }
 
+// Words that a beginner doesn't know, each explained at a tap.
+const explained = (words) => words.length > 0 && h("div", { class: "words" },
+    words.map(([name, , meaning]) => h("details", { "data-key": `word ${name}` },
+        h("summary", {}, name), h("p", {}, meaning))));
+
+const textsOf = ({ text, ask, answer }) => [text, ask, answer];
+
+// What the first question of a drill uses, and so is explained there.
+const usedIn = ({ ask }) => (ask === "play"
+    ? ["roll", "EPC", "pips"] : [WANTED[ask], ...(ask === "pips" ? [] : ["EPC", "roll"]), "pips"]);
+
 function lessonPanel(state, verdict, act) {
     const lesson = lessonOf(state);
     const { text, ask, answer, roll } = toldStep(state);
+    const before = lesson.steps.slice(0, state.step - 1).flatMap(textsOf);
     return h("div", { class: "coach" },
         head(act, lesson.title),
         h("p", { class: "how" }, `Step ${state.step} of ${lesson.steps.length}.`,
             lookAround(state)),
         answeredHere(state, verdict),
+        explained(wordsIn([lesson.title, text, ask, answer], before.concat(before.length > 0 ? lesson.title : []))),
         text && h("p", { class: "says" }, text),
         (ask || roll) && h("p", { class: "asks" }, ask, roll && [" ", dicePicture(roll)]),
         answer && state.isAnswered && h("p", { class: "answers" }, answer),
@@ -160,6 +174,7 @@ function drillPanel(state, verdict, act) {
             : question ? h("p", { class: "asks" }, askedIn(state),
                 question.roll && [" ", dicePicture(question.roll)])
             : [score(state), result(state, act)],
+        question && place === 0 && explained(wordsIn(usedIn(drill))),
         h("p", { class: "how" }, `${drawnBy(state)}${question ? soFar(state) : ""}`,
             lookAround(state)),
         question && !modeOf(state).trains && h("p", { class: "steering" },

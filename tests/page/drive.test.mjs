@@ -1172,7 +1172,7 @@ async function driveLessons(browser) {
         }
     }
     const guess = await browser.open(`${address}#at=7,4,2,0,0,0&estimate=effective`);
-    await guess.until('document.body.dataset.ready && document.querySelector(".estimate input")');
+    await guess.until('document.querySelector(".rolls .next") && document.querySelector(".estimate input")');
     equal("no number before the estimate",
         await guess.value('document.querySelectorAll("#numbers .figure").length + document.querySelectorAll(".chances").length'), 0);
     await guess.click(".estimate input");

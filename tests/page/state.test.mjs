@@ -2453,6 +2453,96 @@ async function screens() {
     [10, 15, 3, 2, 9]);
 }
 
+// A match from its text or its file to the first of its misses that comes back, and a class's drill.
+async function gamesAndClasses() {
+    part = "one's own games";
+    const match = (kind) => readFileSync(new URL(`../../python/tests/matches/short.${kind}`, import.meta.url), "utf8");
+    const used = await Used.open("#games");
+    const give = async (text) => {
+        used.find("match text").value = text;
+        await used.clicked("read match");
+    };
+    equal("at first", [used.find("match text").getAttribute("aria-describedby"), used.document.querySelector(".reviewed")],
+        ["match-why", null]);
+    await give("7 point match\n\nGame 2");
+    equal("a fault", [used.text("match-why"), used.focus(), used.document.querySelector("#match-why").getAttribute("role")],
+        ["No match: line 3: it should be game 1: Game 2", "match text", "alert"]);
+    await give(match("mat"));
+    const rows = () => [...used.document.querySelectorAll("#games .reviewed li")];
+    const { turns, rows: graded } = used.session.state.match;
+    equal("each bearoff play of at most 44 pips", [used.text("match-why"), rows().length,
+        turns.filter(({ points }) => pipsOf(points) > 44).length], ["", graded.filter(Boolean).length,
+        graded.filter((row) => !row).length]);
+    const [first] = turns.filter((_, place) => graded[place]);
+    const row = graded.find(Boolean);
+    const pips = Number(row.play.exact.split("/")[0]) * 49 / 6 / 18;
+    equal("what one lost, in rolls and in pips", [...rows()[0].querySelectorAll("dd")].map((node) => node.textContent).slice(0, 2)
+        .concat(rows()[0].querySelector(".which").textContent), [row.play.text, row.best.text, `1, ${first.move}`]);
+    equal("and how much", row.play.isBest || rows()[0].textContent.includes(`${pips.toFixed(3)} pips`), true);
+    const totals = [...used.document.querySelectorAll("#games tbody tr")].map((line) =>
+        [...line.children].slice(1, 4).map((cell) => Number(cell.textContent)));
+    equal("of both players", totals.map(([plays]) => plays).reduce((sum, plays) => sum + plays), rows().length);
+    const asked = [0, 1].find((player) => used.find(`ask ${player}`));
+    const misses = graded.flatMap((one, place) => (one && turns[place].player === asked && one.play.loss > 0n
+        ? [[turns[place].points, Number(one.play.loss)]] : []));
+    await used.clicked(`ask ${asked}`);
+    await used.clicked(`ask ${asked}`);
+    equal("its misses come back, each once", [used.session.state.memory.cards.map(({ points, lost }) => [points, lost]),
+        used.text("games").includes(`${misses.length} questions come back from today on.`)], [misses, true]);
+    await used.go("#home");
+    equal("from today on", used.find("today").textContent.startsWith(`Begin ${misses.length} again`), true);
+    await used.clicked("today");
+    const dearest = misses.reduce((most, one) => (one[1] > most[1] ? one : most));
+    equal("the dearest first", used.board, dearest[0]);
+    await used.go("#games");
+    equal("Back to the games", rows().length > 0, true);
+    await used.go("#at=1,0,0,0,0,0");
+    tell(used.document, "drop", { dataTransfer: { files: [Object.assign(new Blob([Buffer.from(match("sgf")
+        .replace("PW[", "PW[J\u00fc"), "latin1")]), { name: "x.SGF" })] } });
+    await settled();
+    await settled();
+    await used.worker.answerAll();
+    equal("a file that is dropped, of an older code", [modeOf(used.session.state).screen, rows().length > 0,
+        used.session.state.match.names[0].startsWith("J\u00fc")], ["games", true, true]);
+
+    part = "a class's drill";
+    const room = await Used.open("#teacher");
+    const write = async (text, key, ask = "play") => {
+        room.find("positions").value = text;
+        room.find("asked").value = ask;
+        await room.clicked(key);
+    };
+    for (const [text, why] of [["1,1,0,0,0,0 21\n\nx", "Line 3: A count is a whole number; commas or spaces stand between the six."],
+        ["1,1,0,0,0,0", "Line 1: A play is asked, so a roll stands behind the position, as in 2,2,2,2,2,2 31."],
+        ["0,0,0,0,0,0 21", "Line 1: There is no checker."],
+        [Array(61).fill("1,1,0,0,0,0 21").join("\n"), "Line 61: A drill has at most 60 positions."]]) {
+        await write(text, "sheet");
+        equal(`refused, ${text.slice(0, 20)}`, [room.text("positions-why"), room.focus(), room.find("print sheet")],
+            [why, "positions", null]);
+    }
+    const XGID = "XGID=-ABC--D------------a-b--c-:0:0:-1:12:0:0:0:0:10";
+    await write(`1,1,0,0,0,0 21\r\n\n2 2 2 2 2 2 3-1\n${XGID}\n${XGID} 61`, "sheet");
+    equal("positions, one a line", room.session.state.sheet.drill.list.map(({ points, roll }) => `${points} ${roll.join("")}`),
+        ["1,1,0,0,0,0 21", "2,2,2,2,2,2 31", ...["21", "61"].map((roll) => `${readTyped(XGID).points} ${roll}`)]);
+    const key = [...room.document.querySelectorAll(".key li")].map((node) => node.textContent.match(/best of.*/)[0]);
+    equal("the key without playing", key, room.session.state.sheet.key);
+    const printed = room.at("printed");
+    equal("on paper", [printed.querySelectorAll(".drill-printed .small").length, printed.querySelector(".name-line").textContent,
+        [...printed.querySelectorAll(".answers-printed li")].map((node) => node.textContent)], [4, "Name", key]);
+    room.click("print sheet");
+    equal("printed", room.window.printed, 1);
+    await write("1,1,0,0,0,0\n2,2,2,2,2,2", "copy class", "effective");
+    const link = room.window.copied.replace(/^[^#]*/, "");
+    equal("the class link", [link, readLink(link).faults], ["#list=1,1,0,0,0,0.2,2,2,2,2,2&ask=effective", []]);
+    const pupil = await Used.open(link);
+    equal("asks everybody the same", [pupil.session.state.questions.length, pupil.board,
+        pupil.text("coach").includes("Positions of a class")], [2, [1, 1, 0, 0, 0, 0], true]);
+    await write("", "open class");
+    equal("without positions, of the theme", [room.session.state.drill.list, room.session.state.questions.length],
+        [undefined, 20]);
+    equal("what a list can't be", readLink("#list=1,1,0,0,0,0&ask=play").faults.length, 1);
+}
+
 // What a student did stays on the device, and today's ten are of it.
 const losing = ([high, low]) => `play ${high}/1 ${low}/2`;
 const best = ([high, low]) => `play ${high}/off ${low}/0`;
@@ -3064,7 +3154,7 @@ const PARTS = [
     ["guesses", guesses],
     ["why a play loses", reasons],
     ["a guess on the board", guessed],
-    ["keeping", keeping], ["screens", screens],
+    ["keeping", keeping], ["screens", screens], ["games and classes", gamesAndClasses],
     ["a student's days", student],
     ["what comes back otherwise", comeBack],
     ["estimating", estimating],
