@@ -15,7 +15,7 @@ import subprocess
 import sys
 from pathlib import Path
 
-MOST_BYTES = 420_000
+MOST_BYTES = 430_000
 # what tools/unproved puts into a module, and what a page of such modules says in place of its words
 MARK = b"BEAROFF_UNPROVED"
 UNPROVED = (
@@ -120,6 +120,7 @@ def main(web, modules, version, page, maps=None):
     code = script(web, PAGE, STRICT + "(PARTS=>{", maps)
     code = f"{code}}})({parts});"
     style = "".join((web / "style" / f"{name}.css").read_text() for name in STYLES)
+    style = run(["esbuild", "--minify", "--loader=css"], input=style).strip()
     text = (web / "index.html").read_text()
     is_proved = not any(MARK in (modules / f"{name}.wasm").read_bytes() for name in forms)
     for words, others in () if is_proved else UNPROVED:

@@ -4,14 +4,16 @@ import { abilities } from "../js/abilities.js";
 import { boardActions } from "./actions/board.js";
 import { draftActions } from "./actions/draft.js";
 import { focusing } from "./actions/focus.js";
+import { gamesActions } from "./actions/games.js";
 import { shelfActions } from "./actions/shelf.js";
 import { studentActions } from "./actions/student.js";
+import { teacherActions } from "./actions/teacher.js";
 import { trainingActions } from "./actions/training.js";
 import { Client } from "./client.js";
 import { Past } from "./history.js";
 import { readDraft, readPicks, writeDraft, writePicks } from "./kept.js";
 import { readLink, writeLink } from "./link.js";
-import { answered, dayOf, Store } from "./memory.js";
+import { answered, dayOf, learnt, Store } from "./memory.js";
 import { Bar } from "./progress.js";
 import { savePicture } from "./saving.js";
 import { Session } from "./session.js";
@@ -22,11 +24,34 @@ import { asText, MOST_LESSONS, readLessons } from "./trainer.js";
 import { draw } from "./tree.js";
 import { view } from "./view.js";
 
+const MOST_SEED = 999999999;
 const LONG = 1500; // milliseconds that a button says what it did
 
+// The parts of a page by their ids. What a screen hasn't isn't in the document, where a comment keeps
+// its place; but what tells of trouble stays, so that it is heard when it comes.
+export class Parts {
+    constructor(document) {
+        this.all = new Map([...document.querySelectorAll("[id]")].map((part) => [part.id, part]));
+        this.places = new Map();
+        this.document = document;
+    }
+
+    at(name) { return this.all.get(name); }
+
+    show(name, isHidden) {
+        const part = this.at(name);
+        part.hidden = isHidden;
+        if (part.getAttribute("role") === "alert") return;
+        if (!this.places.has(name)) this.places.set(name, this.document.createComment(name));
+        const place = this.places.get(name);
+        if (isHidden && part.parentNode) part.replaceWith(place);
+        else if (!isHidden && place.parentNode) place.replaceWith(part);
+    }
+}
+
 // Puts what is shown into the page.
-export function put(document, shown) {
-    const at = (name) => document.getElementById(name);
+export function put(document, parts, shown) {
+    const at = (name) => parts.at(name);
     const had = document.activeElement;
     // what isn't known yet keeps the room that it had, so that nothing jumps
     const room = at("chances").offsetHeight;
@@ -35,7 +60,7 @@ export function put(document, shown) {
     for (const [name, text] of Object.entries(shown.texts)) {
         if (at(name).textContent !== text) at(name).textContent = text;
     }
-    for (const [name, isHidden] of Object.entries(shown.hidden)) at(name).hidden = isHidden;
+    for (const [name, isHidden] of Object.entries(shown.hidden)) parts.show(name, isHidden);
     if (at("counts").getAttribute("data-told") !== shown.counts) {
         at("counts").setAttribute("data-told", shown.counts);
         at("counts").value = shown.counts;
@@ -46,13 +71,14 @@ export function put(document, shown) {
     at("guess").checked = shown.guess;
     at("whole").setAttribute("href", shown.whole);
     at("rolls").classList.toggle("opened", shown.isOpen);
-    document.body.classList.toggle("compact", shown.isCompact);
-    document.body.classList.toggle("training", shown.isTraining);
+    document.body.dataset.screen = shown.screen;
+    document.body.classList.toggle("compact", shown.screen === "embedded");
+    document.body.classList.toggle("training", shown.trains);
     document.body.classList.toggle("playing", shown.isPlaying);
     document.body.classList.toggle("rolled", shown.hasRoll);
-    // a focus whose element went goes on where one trains
-    if (had && had !== document.body && !document.body.contains(had) && shown.isTraining) {
-        at("coach").focus({ preventScroll: true });
+    // a focus whose element went goes on where the screen begins
+    if (had && had !== document.body && !document.body.contains(had)) {
+        at(shown.begins).focus({ preventScroll: true });
     }
 }
 
@@ -63,16 +89,17 @@ function actionsOf(session, document, window, store) {
     const given = {
         session, document, window, store, ...focusing(document),
         change: (how, ...words) => session.change(how, ...words), today: () => today(window),
+        anySeed: () => 1 + Math.floor(Math.random() * MOST_SEED),
     };
     return {
         ...boardActions(given), ...trainingActions(given), ...studentActions(given),
-        ...draftActions(given), ...shelfActions(given),
+        ...draftActions(given), ...gamesActions(given), ...shelfActions(given),
+        ...teacherActions(given),
     };
 }
 
 // Copies a link, and says so, or that it can't be and where the link stands.
-export async function copyLink(document, window, href) {
-    const at = (name) => document.getElementById(name);
+export async function copyLink(at, window, href) {
     const where = window.location.protocol === "file:"
         ? " This page is a file of this device, so the link opens only here." : "";
     try {
@@ -91,8 +118,7 @@ export async function copyLink(document, window, href) {
 }
 
 // Copies the board's position as text, or says that it can't be, and where the text stands.
-export async function copyPosition(document, window, points) {
-    const at = (name) => document.getElementById(name);
+export async function copyPosition(at, window, points) {
     const text = asText(points);
     try {
         await window.navigator.clipboard.writeText(text);
@@ -105,18 +131,21 @@ export async function copyPosition(document, window, points) {
 
 // Starts the page: `parts` are the worker's script and the two modules in base 64.
 export function start(document, window, parts) {
-    const at = (name) => document.getElementById(name);
+    const page = new Parts(document);
+    const at = (name) => page.at(name);
     const bar = new Bar(document, window);
     const past = new Past(window);
     let act = null;
-    let trained = ["", ""]; // the lesson or drill that is on, and which step or question of it
+    // the lesson or drill that is on, which step or question of it, and the screen
+    let trained = ["", "", ""];
 
     // What is asked anew comes into sight, and what begins is where Tab and a reader go on.
     const show = (state) => {
         const shown = view(state, act);
-        put(document, shown);
-        const [what, which] = shown.trained;
-        if (what && (what !== trained[0] || which !== trained[1])) {
+        put(document, page, shown);
+        const [what, which, screen] = shown.trained;
+        const isOther = trained[2] !== "" && screen !== trained[2] && !(what && trained[0]);
+        if (isOther || (what && (what !== trained[0] || which !== trained[1]))) {
             document.body.scrollIntoView({ block: "start" });
         }
         if (what && what !== trained[0]) at("coach").focus({ preventScroll: true });
@@ -132,11 +161,12 @@ export function start(document, window, parts) {
         writeDraft(window, state.draft);
     }, readLessons(parts.lessons || "").lessons);
     const store = new Store(window);
-    session.remember = (state, answer) => {
+    const keep = (state, how) => {
         const day = today(window);
-        const memory = store.change(state.memory, (kept) => answered(kept, answer, day));
-        return withMemory(state, memory, day, store.why);
+        return withMemory(state, store.change(state.memory, (kept) => how(kept, day)), day, store.why);
     };
+    session.remember = (state, answer) => keep(state, (kept, day) => answered(kept, answer, day));
+    session.learn = (state, lesson) => keep(state, (kept) => learnt(kept, lesson));
     act = actionsOf(session, document, window, store);
     // what another page of the browser has kept, and a day that begins meanwhile
     const look = () => {
@@ -172,6 +202,10 @@ export function start(document, window, parts) {
 
     const take = (file) => {
         if (!file) return;
+        if (/\.(mat|sgf)$/i.test(file.name || "")) {
+            act.matchFile(file);
+            return;
+        }
         if (/\.txt$/i.test(file.name || "")) {
             // of one that is too long no more than says so
             file.slice(0, 4 * MOST_LESSONS + 1).text().then((text) => act.give(text));
@@ -203,7 +237,7 @@ export function start(document, window, parts) {
         at("wider").addEventListener("click", act.retry);
         at("print").addEventListener("click", () => window.print());
         at("copy-text").addEventListener("click", () =>
-            copyPosition(document, window, session.state.points));
+            copyPosition(at, window, session.state.points));
         for (const kind of ["svg", "png"]) {
             at(`save-${kind}`).addEventListener("click", () =>
                 savePicture(document, window, kind, session.state.points,
@@ -211,7 +245,7 @@ export function start(document, window, parts) {
         }
         at("copy").addEventListener("click", () => {
             past.settle();
-            copyLink(document, window, window.location.href.replace(/#.*/, "") + past.current);
+            copyLink(at, window, window.location.href.replace(/#.*/, "") + past.current);
         });
         at("file").addEventListener("change", ({ target }) => {
             take(target.files[0]);

@@ -1,13 +1,10 @@
 // A lesson that is made on the page: positions, each with its text, its question and its answer.
 import { miniature } from "./board.js";
-import { h } from "./tree.js";
+import { button, h } from "./tree.js";
 
 // What a step has besides its position: the word, what stands beside its field, and a hint in it.
 const FIELDS = [["roll", "Roll", "52, or none"], ["text", "Text", ""], ["ask", "Question", ""],
     ["answer", "Answer", ""]];
-
-const button = (key, text, click, more = {}) =>
-    h("button", { type: "button", "data-key": key, click, ...more }, text);
 
 export function editor({ draft, draftTold }, act) {
     if (!draft) return [];

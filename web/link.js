@@ -3,10 +3,13 @@
 import { isTooLong, MOST_TEXT } from "../js/checks.js";
 import { NoRaceError, read } from "../js/notation.js";
 import { FIRST, GREATEST, MOST_CHECKERS, readPoints, sumOf } from "./points.js";
-import { ASKED, ESTIMATED, readDrill, readDue, readSeed, writeDue } from "./questions.js";
+import { ASKED, ESTIMATED, readDrill, readDue, readList, readSeed, writeDue } from "./questions.js";
 import { oneLine } from "./texts.js";
-import { LEVELS, themeOf } from "./themes.js";
+import { CHOSEN, LEVELS, themeOf } from "./themes.js";
 import { readLessons } from "./trainer.js";
+
+// The screens besides the board that an address names by one word; without any word it is the first.
+export const PAGES = ["home", "games", "teacher"];
 
 export const MOST_KEPT = 10;
 export const LONGEST_CAPTION = 200;
@@ -74,9 +77,11 @@ function faultsOf(words, drill) {
         ["ask", (value) => !Object.hasOwn(ASKED, value),
             `a drill asks ${Object.keys(ASKED).join(", ")}`],
         ["level", (value) => !LEVELS.some(({ name }) => name === value),
-            `a level is ${LEVELS.map(({ name }) => name).join(", ")}`],
+            `a level is ${CHOSEN.map(({ name }) => name).join(", ")}`],
         ["ten", (value) => readDue(value, words.get("ask") ?? "play") === null,
             "what comes back are six counts of each, and a roll where plays are asked"],
+        ["list", (value) => readList(value, words.get("ask") ?? "play") === null,
+            "a list has six counts of each question, and a roll where plays are asked"],
         ["question", isNone(/^[1-9]\d?$/), "it is the number of one"],
         ["estimate", (value) => !ESTIMATED.includes(value),
             `what is estimated is ${ESTIMATED.join(", ")}`],
@@ -110,7 +115,7 @@ export function readLink(hash) {
     const words = new URLSearchParams(hash.replace(/^#/, ""));
     const drill = readDrill({
         theme: words.get("drill"), seed: words.get("seed"), ask: words.get("ask"),
-        level: words.get("level"), ten: words.get("ten"),
+        level: words.get("level"), ten: words.get("ten"), list: words.get("list"),
     });
     const kept = [];
     let last = null;
@@ -127,7 +132,10 @@ export function readLink(hash) {
     }
     const roll = /^[1-6]{2}$/.test(words.get("roll") || "")
         ? [...words.get("roll")].map(Number) : null;
+    const page = [...words.keys()].length === 0 ? "home"
+        : PAGES.find((name) => words.has(name)) || "board";
     return {
+        page,
         points: readPoints(words.get("at") || "") || (kept.length > 0 ? kept[0].points : START),
         kept,
         title: oneLine(words.get("t") || "", LONGEST_CAPTION),
@@ -148,14 +156,18 @@ export function readLink(hash) {
     };
 }
 
+// The address of some words.
+export const link = (words) => `#${new URLSearchParams(words).toString().replaceAll("%2C", ",")}`;
+
 // The address of a state.
 export function writeLink({ points, kept, title, roll, guess, bound, ...more }) {
     const words = new URLSearchParams();
-    const { isCompact, drill, place, estimate, lesson, text: written, step } = more;
+    const { isCompact, drill, place, estimate, lesson, text: written, step, page } = more;
+    if (PAGES.includes(page) && !drill && !lesson && !written) return `#${page}`;
     if (isCompact) words.append("view", "board");
     if (drill) {
-        for (const [name, value] of [["drill", drill.theme], ["seed", drill.seed],
-            ["ask", drill.ask]]) {
+        for (const [name, value] of [...(drill.list ? [["list", writeDue(drill.list)]]
+            : [["drill", drill.theme], ["seed", drill.seed]]), ["ask", drill.ask]]) {
             words.append(name, value);
         }
         if (drill.level) words.append("level", drill.level);

@@ -4,26 +4,33 @@
 // read in again.
 import { readPoints, sumOf } from "./points.js";
 import { dailyLevel, ESTIMATED, MOST_LOST, TEN } from "./questions.js";
-import { themeOf, THEMES } from "./themes.js";
+import { ladderOf, themeOf, THEMES } from "./themes.js";
 
-// Texts of version 2 have no rating, and those of version 1 no estimates that come back.
-export const VERSION = 3;
+// Texts of version 3 have no lessons and no levels, those of version 2 no rating, and those of version
+// 1 no estimates that come back.
+export const VERSION = 4;
 export const MOST_CARDS = 300;
 export const MOST_DAYS = 400;
 export const MOST_LETTERS = 100_000; // of a text that is read in
 const LIKE = 2; // the box from which on a question like it is asked
 const KNOWN = 5; // answers after which it is known how much a theme loses
 const FADING = 50; // a play counts a fiftieth less in the rating with each further one
-const RATED = 20; // plays after which there is a rating
+const BEGINNER = 10; // plays at random before the first one, which fade like others
+const USUAL = 100_000; // what one of them loses, in millionths of a roll
+const RECENT = 20; // answers of a theme that its level follows, and
+const DECIDED = 10; // how many of them at least
 const LEAST_RATING = -100;
 
 // After how many days a question comes back, by its box. One that is right in the last is learnt.
 export const BOXES = [1, 3, 7, 21, 60];
 
-// `rating` is what the last plays lost, what natural ones would have lost in their place, both in
-// millionths of a roll, and how many plays there were.
+// `rating` is what the last plays lost, what plays at random would have lost in their place, both in
+// millionths of a roll, and how many plays there were. `levels` are those of themes, each with its
+// last answers there, as digits: 1 is right. `lessons` are those that were read, each with
+// how much was right of how much at the best time that its drill was done.
 export const EMPTY = {
-    days: [], cards: [], themes: [], sizes: [0, 0, 0], learnt: 0, rating: [0, 0, 0],
+    days: [], cards: [], themes: [], sizes: [0, 0, 0], learnt: 0, rating: [0, 0, 0], levels: [],
+    lessons: [],
 };
 
 const DAY = 86400000; // milliseconds
@@ -91,43 +98,86 @@ function carded(cards, card, { points, roll, theme, lost, isMissed }, day) {
     return box < BOXES.length ? [...rest, next] : rest;
 }
 
-// The rating's sums after a play that lost so many thousandths, where the natural one loses others.
-const rated = ([lost, natural, plays], more) => within(MOST_RATED, [
+// The rating's sums after a play that lost so many thousandths, where one at random loses others.
+const rated = ([lost, random, plays], more) => within(MOST_RATED, [
     lost - Math.floor(lost / FADING) + 1000 * more.lost,
-    natural - Math.floor(natural / FADING) + 1000 * more.natural, plays + 1,
+    random - Math.floor(random / FADING) + 1000 * more.random, plays + 1,
 ]);
 
-// Of a hundred parts of what natural plays would have lost in the place of the last plays, those
-// that weren't lost: 100 for no loss, 0 for as much as they, less for more; null until it is known.
-export function ratingOf({ rating: [lost, natural, plays] }) {
-    if (plays < RATED || natural === 0) return null;
-    return Math.max(LEAST_RATING, Math.round((100 * (natural - lost)) / natural));
+// Of a hundred parts of what plays at random would have lost in the place of the last plays, those
+// that weren't lost: 100 for no loss, 0 for as much as they, less for more. It begins with some plays
+// at random.
+export function ratingOf({ rating: [lost, random, plays] }) {
+    const begun = BEGINNER * USUAL * (1 - 1 / FADING) ** plays;
+    return Math.max(LEAST_RATING, Math.round((100 * (random - lost)) / (random + begun)));
+}
+
+// The level of a theme: the one that it has reached, or else the easiest.
+export const levelOf = ({ levels }, theme) =>
+    levels.find(([name]) => name === theme)?.[1] ?? ladderOf(theme)[0];
+
+// The levels after an answer to a question of a theme: one step up where over three of four of its
+// last answers on its level were right, and down where under two of five were.
+function climbed(memory, { theme, level, isMissed }) {
+    const ladder = ladderOf(theme);
+    const at = levelOf(memory, theme);
+    if (level !== at) return memory.levels;
+    const [, , answers = ""] = memory.levels.find(([name]) => name === theme) || [];
+    const recent = `${answers}${isMissed ? 0 : 1}`.slice(-RECENT);
+    const share = [...recent].filter((one) => one === "1").length / recent.length;
+    const step = recent.length < DECIDED ? 0 : share > 0.75 ? 1 : share < 0.4 ? -1 : 0;
+    const next = ladder[ladder.indexOf(at) + step] ?? at;
+    return [...memory.levels.filter(([name]) => name !== theme),
+        [theme, next, next === at ? recent : ""]];
 }
 
 // The memory after an answer on a day: `theme` is that of the drill, or what is estimated, `lost`
-// are thousandths of a roll, or of a pip for an estimate, `natural` are those of a natural play in
-// its place, `card` is the question that comes back where one like it was asked in its place, and
-// `isLast` says whether today's ten are done with it.
+// are thousandths of a roll, or of a pip for an estimate, `random` are those of a play at random in
+// its place, `card` is the question that comes back where one like it was asked in its place, `level`
+// is that of the drill, and `ten` the day whose ten are done with it, or 0. These count for their
+// day, where it is over since yesterday at most.
 export function answered(memory, told, day) {
     const answer = { ...told, lost: Math.min(MOST_LOST, told.lost) };
-    const { roll, lost, isMissed, isLast } = answer;
-    const asked = cardOf(memory.cards, answer.card ?? answer);
-    const theme = asked ? asked.theme : answer.theme;
-    const cards = carded(memory.cards, asked, answer, day);
+    const { roll, lost, isMissed, ten } = answer;
+    const card = cardOf(memory.cards, answer.card ?? answer);
+    const theme = card ? card.theme : answer.theme;
+    const cards = carded(memory.cards, card, answer, day);
     const isLearnt = cards.length < memory.cards.length;
     return {
+        ...memory,
         cards: boundedCards(cards),
         learnt: Math.min(MOST_COUNT, memory.learnt + (isLearnt ? 1 : 0)),
-        days: boundedDays(tallied(memory.days, day, [1, isMissed ? 1 : 0, isLast ? 1 : 0])),
+        days: boundedDays(ten === day || ten === day - 1
+            ? tallied(tallied(memory.days, day, [1, isMissed ? 1 : 0, 0]), ten, [0, 0, 1])
+            : tallied(memory.days, day, [1, isMissed ? 1 : 0, 0])),
         themes: tallied(memory.themes, theme, [1, isMissed ? 1 : 0, lost]),
         sizes: memory.sizes.map((count, size) =>
             Math.min(MOST_COUNT, count + (roll && isMissed && size === sizeOf(lost) ? 1 : 0))),
         rating: roll ? rated(memory.rating, answer) : memory.rating,
+        levels: roll && !card ? climbed(memory, answer) : memory.levels,
+    };
+}
+
+// The memory once a lesson was read, or its drill was done, with so much right of so much.
+export function learnt(memory, [number, right, asked]) {
+    const had = memory.lessons.find(([one]) => one === number) || [number, 0, 0];
+    const isBetter = right * Math.max(1, had[2]) >= had[1] * Math.max(1, asked) && asked > 0;
+    const rest = memory.lessons.filter(([one]) => one !== number);
+    return {
+        ...memory, lessons: [...rest, isBetter ? [number, right, asked] : had]
+            .sort(([one], [other]) => one - other),
     };
 }
 
 // How much was answered on a day.
 export const askedOn = ({ days }, day) => days.find(([one]) => one === day)?.[1] ?? 0;
+
+// The memory with a question that comes back from a day on, unless it does already.
+export const asked = (memory, { points, roll, lost, theme }, day) =>
+    (cardOf(memory.cards, { points, roll, theme }) ? memory : {
+        ...memory,
+        cards: boundedCards([...memory.cards, { points, roll, theme, box: 0, due: day, lost }]),
+    });
 
 // Whether a day's ten are done.
 export const isDoneOn = ({ days }, day) => days.some(([one, , , tens]) => one === day && tens > 0);
@@ -164,18 +214,24 @@ export function weakest(memory, day) {
 
 const APART = 100_000; // seeds between two drills of a day
 
+// The day whose ten a drill of plays is, by its seed.
+export const dayOfTen = ({ seed }) => seed % APART;
+
 // A question that comes back, or, from its third time on, its theme, of which another is asked.
 const backOf = ({ points, roll, theme, box }) =>
     ({ points, roll, ...(roll && box >= LIKE ? { theme } : {}) });
 
 // Today's ten, as a drill: first those that come back, and the rest new, by the number of the day,
-// so that who begins on one day is asked the same. Where ten come back none is new: so no more wait
+// so that who begins on one day is asked the same: the first of all go through some levels, and then
+// those of each theme have its level. Where ten come back none is new: so no more wait
 // than a student can answer. What follows on that day has another seed.
 export function todays(memory, day) {
-    const theme = weakest(memory, day);
+    const isFirst = memory.days.length === 0;
+    const theme = isFirst ? "all" : weakest(memory, day);
+    const level = isFirst ? "first" : levelOf(memory, theme);
     return {
         theme, seed: day + APART * Math.min(askedOn(memory, day), 1000),
-        ask: "play", level: dailyLevel(theme),
+        ask: "play", ...(level === "any" ? {} : { level }),
         due: dueOn(memory, day, "play").slice(0, TEN).map(backOf),
     };
 }
@@ -191,9 +247,10 @@ export function todaysEstimates(memory, day) {
 }
 
 // The memory as a text of lines.
-export const written = ({ days, cards, themes, sizes, learnt, rating }) => [
-    `bearoff memory ${VERSION}`, `learnt ${learnt}`, `sizes ${sizes.join(" ")}`,
-    `rating ${rating.join(" ")}`,
+export const written = ({ days, cards, themes, sizes, learnt: count, rating, levels, lessons }) => [
+    `bearoff memory ${VERSION}`, `learnt ${count}`, `sizes ${sizes.join(" ")}`,
+    `rating ${rating.join(" ")}`, ...lessons.map((row) => `lesson ${row.join(" ")}`),
+    ...levels.map(([theme, level, answers]) => `level ${theme} ${level} ${answers || "-"}`),
     ...themes.map((row) => `theme ${row.join(" ")}`),
     ...days.map((row) => `day ${row.join(" ")}`),
     ...cards.map(({ points, roll, theme, box, due, lost }) =>
@@ -206,11 +263,19 @@ const isTally = ([asked, missed]) => missed <= asked;
 // What a line says behind its word, and the memory with it, or null where it can't be taken. No row
 // stands twice.
 const LINES = {
-    learnt: [/^(\d{1,7})$/, (memory, [learnt]) => ({ ...memory, learnt: Number(learnt) })],
+    learnt: [/^(\d{1,7})$/, (memory, [count]) => ({ ...memory, learnt: Number(count) })],
+    lesson: [/^([1-9]\d?) (\d\d?) (\d\d?)$/, (memory, words) => {
+        const [number, right, asked] = words.map(Number);
+        return right > asked || !isNew(memory.lessons, number) ? null
+            : { ...memory, lessons: [...memory.lessons, [number, right, asked]] };
+    }],
     sizes: [/^(\d{1,7}) (\d{1,7}) (\d{1,7})$/, (memory, sizes) =>
         ({ ...memory, sizes: sizes.map(Number) })],
     rating: [/^(\d{1,9}) (\d{1,9}) (\d{1,7})$/, (memory, sums) =>
         ({ ...memory, rating: sums.map(Number) })],
+    level: [/^([a-z]+) ([a-z]+) (-|[01]{1,20})$/, (memory, [theme, level, answers]) =>
+        (themeOf(theme)?.isPlayed && ladderOf(theme).includes(level) && isNew(memory.levels, theme)
+            ? { ...memory, levels: [...memory.levels, [theme, level, answers.replace("-", "")]] } : null)],
     theme: [/^([a-z]+) (\d{1,7}) (\d{1,7}) (\d{1,9})$/, (memory, [name, ...counts]) =>
         ((themeOf(name) || ESTIMATED.includes(name)) && isNew(memory.themes, name)
             && isTally(counts.map(Number))
@@ -251,9 +316,12 @@ export function readMemory(text) {
         memory = found ? take(memory, found.slice(1)) : null;
         if (!memory) return refuse(`Line ${place + 2} can't be read.`);
     }
+    // before there were levels each day asked the same one
+    const levels = Number(version) >= 4 ? memory.levels : memory.themes.flatMap(([name]) =>
+        (themeOf(name)?.isPlayed ? [[name, dailyLevel(name), ""]] : []));
     return {
         memory: {
-            ...memory, cards: boundedCards(memory.cards), days: boundedDays(memory.days),
+            ...memory, levels, cards: boundedCards(memory.cards), days: boundedDays(memory.days),
         },
         fault: "",
     };

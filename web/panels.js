@@ -180,9 +180,9 @@ export function plays({ points, dice, list, shown, lost, isHidden, isTrained, st
     const told = !ordered ? COMING : isHidden ? "Which play is best?"
         : ordered.length === 1 ? "One play" : `${ordered.length} plays, losses in rolls`;
     return [
-        h("div", { class: "top-line" },
+        !isTrained && h("div", { class: "top-line" },
             h("h3", {}, dicePicture(dice), " ", told),
-            !isTrained && h("button", {
+            h("button", {
                 type: "button", class: "close", "data-key": "close", click: () => act.close(),
             }, "Close")),
         !isTrained && !isHidden && lookedAt(points, shown ? shown.moves : []),

@@ -1,9 +1,10 @@
 // The questions of a drill, drawn by a seed that stands in its link.
 import { FIRST, GREATEST, pipsOf, readPoints, sumOf } from "./points.js";
-import { isNamed, LEVELS, levelsOf, positions, themeOf } from "./themes.js";
+import { isNamed, ladderOf, LEVELS, levelsOf, positions, themeOf } from "./themes.js";
 
 export const QUESTIONS = 20; // of a drill
 export const TEN = 10; // of today's ten
+export const MOST_LISTED = 60; // of a list
 
 const MODULUS = 2147483647;
 const MOST_TRIES = 20000; // until a drill has its questions
@@ -22,37 +23,47 @@ export const FAR = { pips: 1n, effective: 1000n, wastage: 1000n };
 export const MOST_LOST = 999_999;
 
 // How many pips the questions of a drill can have.
-export const mostOf = ({ theme, due = [] }) => Math.max(themeOf(theme).most ?? FIRST,
-    ...due.map((one) => (pipsOf(one.points) > FIRST ? GREATEST : themeOf(one.theme)?.most ?? 0)));
+export const mostOf = ({ theme, due = [], list }) => (list
+    ? Math.max(...list.map(({ points }) => (pipsOf(points) > FIRST ? GREATEST : FIRST)))
+    : Math.max(themeOf(theme).most ?? FIRST, ...due.map((one) =>
+        (pipsOf(one.points) > FIRST ? GREATEST : themeOf(one.theme)?.most ?? 0))));
 
 // How many questions a drill asks for.
-export const askedFor = ({ due }) => (due ? TEN : QUESTIONS);
+export const askedFor = ({ due, list }) => (list ? list.length : due ? TEN : QUESTIONS);
 
-// What a drill is called: today's ten has questions that come back.
-export const drillName = ({ theme, ask, due }) => (!due ? themeOf(theme).words
+// What a drill is called: today's ten has questions that come back, and one of a list its positions.
+export const drillName = ({ theme, ask, due, list }) => (list ? "Positions of a class"
+    : !due ? themeOf(theme).words
     : ask === "play" ? "Today\u2019s ten" : "Ten estimates");
 
 // A drill of some words, of a level that its theme has; "any" has no word. With questions that come
-// back, where there are any, it has ten.
-export const drillOf = ({ theme, seed, ask, level, due }) => ({
+// back, where there are any, it has ten; with a list of questions these alone.
+export const drillOf = ({ theme, seed, ask, level, due, list }) => (list ? {
+    theme: "all", seed: 1, ask, list,
+} : {
     theme, seed, ask,
     ...(level !== "any" && levelsOf({ theme, ask }).some(({ name }) => name === level)
         ? { level } : {}),
     ...(due ? { due } : {}),
 });
 
-// How hard the new questions of a theme are that each day asks.
-export const dailyLevel = (theme) =>
-    (levelsOf({ theme, ask: "play" }).some(({ name }) => name === "mixed") ? "mixed" : "hard");
+// How hard the questions of a theme are that are like one which comes back.
+export const dailyLevel = (theme) => (ladderOf(theme).includes("mixed") ? "mixed" : "hard");
 
 // A seed as it is typed, or null.
 export const readSeed = (text) =>
     (/^\s*\d{1,9}\s*$/.test(text || "") && Number(text) > 0 ? Number(text) : null);
 
+// The questions of a list as a link has them, or null.
+export function readList(text, ask) {
+    const list = text ? readDue(text, ask, MOST_LISTED) : null;
+    return list?.every(({ theme }) => !theme) ? list : null;
+}
+
 // The questions that come back, as a link has them with full stops between them: the counts of
 // each and, where plays are asked, its roll, and before them its theme where a question like it is
 // asked; or null.
-export function readDue(text, ask = "play") {
+export function readDue(text, ask = "play", most = TEN) {
     if (text === "") return [];
     const pattern = ask === "play" ? /^(?:([a-z]+)-)?([\d,]+),([1-6])([1-6])$/ : /^()([\d,]+)$/;
     const due = text.split(".").map((one) => {
@@ -64,7 +75,7 @@ export function readDue(text, ask = "play") {
             points, roll: high ? [Number(high), Number(low)] : null, ...(theme ? { theme } : {}),
         } : null;
     });
-    return due.length <= TEN && due.every(Boolean) ? due : null;
+    return due.length <= most && due.every(Boolean) ? due : null;
 }
 
 export const writeDue = (due) => due.map(({ points, roll, theme }) =>
@@ -72,11 +83,13 @@ export const writeDue = (due) => due.map(({ points, roll, theme }) =>
     .join(".");
 
 // The drill of these words of a link, or null.
-export function readDrill({ theme, seed, ask, level, ten }) {
+export function readDrill({ theme, seed, ask, level, ten, list = null }) {
     const known = themeOf(theme);
     const read = readSeed(seed);
-    if (!known || read === null) return null;
     const kind = Object.hasOwn(ASKED, ask) ? ask : "play";
+    const listed = readList(list, kind);
+    if (listed) return drillOf({ ask: kind, list: listed });
+    if (!known || read === null) return null;
     if (kind === "play" && !known.isPlayed) return null;
     return drillOf({
         theme, seed: read, ask: kind,
@@ -157,7 +170,8 @@ function siblingOf({ points, roll, theme }, without, seed, rolls, playsOf) {
 
 // The questions of a drill. Today's ten has first what comes back, or a question like it.
 export function drawQuestions(drill, rolls, playsOf) {
-    const { seed, ask, due = [] } = drill;
+    const { seed, ask, due = [], list } = drill;
+    if (list) return list;
     const again = due.reduce((asked, { theme, ...one }) => {
         if (theme) {
             const without = [...asked, ...due];
@@ -165,6 +179,13 @@ export function drawQuestions(drill, rolls, playsOf) {
         }
         return ask !== "play" || decides(playsOf(one.points, one.roll)) ? [...asked, one] : asked;
     }, []);
-    const places = Array.from({ length: askedFor(drill) }, (_, place) => place);
-    return [...again, ...drawAt(places.slice(again.length), again, drill, rolls, playsOf)];
+    const { level = "any" } = drill;
+    const { steps = [[level, askedFor(drill)]] } = LEVELS.find(({ name }) => name === level);
+    // what a step doesn't find is any
+    return [...steps, ["any", steps.length > 1 ? askedFor(drill) : 0]].reduce((asked, [name, count]) => {
+        const most = Math.min(count, askedFor(drill) - asked.length);
+        const places = Array.from({ length: most }, (_, place) => asked.length + place);
+        return [...asked,
+            ...drawAt(places, asked, { ...drill, level: name }, rolls, playsOf)];
+    }, again);
 }

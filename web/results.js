@@ -1,5 +1,5 @@
 // What a pupil did in a drill, as a text that goes back to a teacher, and what a class did in one.
-import { FAR, MOST_LOST, readDrill } from "./questions.js";
+import { FAR, MOST_LISTED, MOST_LOST, readDrill, writeDue } from "./questions.js";
 import { oneLine } from "./texts.js";
 
 const VERSION = 1;
@@ -8,14 +8,18 @@ export const MOST_LETTERS = 200_000; // of the texts of a class
 
 const clean = (name) => oneLine(name, LONGEST_NAME);
 
-// A drill's result as a text: which drill, whose result, and what each answer lost, in thousandths
-// of a roll, or of a pip where a number was estimated; a question without an answer has a dash.
-export const writeResult = ({ theme, seed, ask, level = "any" }, name, lost) => [
-    `bearoff result ${VERSION}`, `drill ${theme} ${seed} ${ask} ${level}`, `name ${clean(name)}`,
+// A drill's result as a text: which drill, whose result, what each answer lost, in thousandths of a
+// roll, or of a pip where a number was estimated, and what it was; a question without an answer has a
+// dash. The positions of a drill of a list stand on a line of their own.
+export const writeResult = ({ theme, seed, ask, level = "any", list }, name, lost, played) => [
+    `bearoff result ${VERSION}`, `drill ${theme} ${seed} ${ask} ${level}`,
+    ...(list ? [`list ${writeDue(list)}`] : []), `name ${clean(name)}`,
     `lost ${lost.map((one) => (one === null ? "-" : Math.min(MOST_LOST, one))).join(" ")}`,
+    `played ${played.map((one) => one ?? "-").join(", ")}`,
 ].join("\n");
 
-const LINE = /^(bearoff result|drill|name|lost) ?(.*)$/;
+const LINE = /^(bearoff result|drill|list|name|lost|played) ?(.*)$/;
+const PLAYED = /^(?:-|(?:[1-6]\/(?:[1-5]|off)(?:\([2-4]\))?(?: |$)){1,4}|\u2212?\d{1,3}\.\d{3})$/;
 
 // What a line says of a result, or null where it can't be taken.
 const TAKEN = {
@@ -24,10 +28,15 @@ const TAKEN = {
         const drill = more === undefined && readDrill({ theme, seed, ask, level });
         return drill && drill.ask === ask && (drill.level ?? "any") === level ? { drill } : null;
     },
+    list: (text) => (text ? { list: text } : null),
+    played: (text) => {
+        const played = text.split(", ");
+        return played.every((one) => PLAYED.test(one)) ? { played } : null;
+    },
     name: (text) => (clean(text) === "" ? null : { name: clean(text) }),
     lost: (text) => {
         const words = text.split(" ");
-        return words.length <= 20 && words.every((word) => /^(-|\d{1,6})$/.test(word))
+        return words.length <= MOST_LISTED && words.every((word) => /^(-|\d{1,6})$/.test(word))
             ? { lost: words.map((word) => (word === "-" ? null : Number(word))) } : null;
     },
 };
@@ -51,7 +60,11 @@ export function readResults(text) {
         Object.assign(results.at(-1), taken);
     }
     if (results.length === 0) return refuse("There is no result in it.");
-    const short = results.findIndex((one) => !one.drill || !one.name || !one.lost);
+    for (const one of results.filter(({ list, drill }) => list && drill)) {
+        one.drill = readDrill({ ...one.drill, list: one.list });
+    }
+    const short = results.findIndex((one) => !one.drill || !one.name || !one.lost
+        || (one.played && one.played.length !== one.lost.length));
     if (short >= 0) return refuse(`Result ${short + 1} is not whole.`);
     const { drill, lost } = results[0];
     const other = results.findIndex((one) => one.lost.length !== lost.length
@@ -67,16 +80,25 @@ const isMissed = (ask, lost) => lost !== null && lost >= Number(FAR[ask] ?? 1n);
 const sum = (numbers) => numbers.reduce((all, one) => all + one, 0);
 
 // What each pupil of a class did, who answered most first, and of these who lost least; and the
-// questions by their places that were missed, those that most have missed first.
+// questions by their places, those that most have missed first, with what was played by whom.
 export function classOf(results) {
     const { drill, lost: { length } } = results[0];
     const pupils = results.map(({ name, lost }) => ({
         name, answered: lost.filter((one) => one !== null).length,
         missed: lost.filter((one) => isMissed(drill.ask, one)).length, lost: sum(lost),
     })).sort((one, other) => other.answered - one.answered || one.lost - other.lost);
-    const missed = Array.from({ length }, (_, place) => ({
-        place, count: results.filter(({ lost }) => isMissed(drill.ask, lost[place])).length,
-    })).filter(({ count }) => count > 0)
+    const questions = Array.from({ length }, (_, place) => {
+        const told = new Map();
+        for (const { name, played, lost } of results) {
+            const text = played?.[place] ?? "-";
+            const so = told.get(text) || { text, names: [], lost: lost[place] };
+            if (text !== "-") told.set(text, { ...so, names: [...so.names, name] });
+        }
+        return {
+            place, count: results.filter(({ lost }) => isMissed(drill.ask, lost[place])).length,
+            played: [...told.values()].sort((one, other) => one.lost - other.lost),
+        };
+    }).filter(({ count, played }) => count > 0 || played.length > 0)
         .sort((one, other) => other.count - one.count || one.place - other.place);
-    return { drill, pupils, missed };
+    return { drill, pupils, questions };
 }

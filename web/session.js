@@ -5,7 +5,7 @@ import {
     dropped, ended, firstBound, loading, notWidened, opened, received, refused, wanted, wantsMore,
     widened, widening,
 } from "./state/database.js";
-import { answeredBetween, begin } from "./state.js";
+import { answeredBetween, begin, learntBetween } from "./state.js";
 
 // Why a database was not opened, in words.
 function whyNot(failure) {
@@ -20,6 +20,7 @@ function noReply({ kind }, { bound }, refusal) {
     return {
         ask: { refusal, status: 0, standing: null, bound }, rolls: [], draw: [],
         again: { plays: [], answers: [] }, why: null, measure: { count: 0, rows: [] }, fill: [],
+        grade: { rows: [], fault: ["malformed", 1, refusal] }, sheet: { questions: [], key: [] },
     }[kind];
 }
 
@@ -32,7 +33,9 @@ export class Session {
         this.client = null; // with the worker that has the open database
         this.second = null; // with one that builds the whole board meanwhile
         this.isAsking = false;
-        this.remember = (state) => state; // the state once something was answered
+        // the state once something was answered, and once a lesson was read or its drill done
+        this.remember = (state) => state;
+        this.learn = (state) => state;
     }
 
     // Starts a worker, which compiles the module and builds the first database: it is at work when
@@ -54,8 +57,10 @@ export class Session {
     // A change that the reader made: a function of the state and of what else it is given.
     change(how, ...words) {
         const next = how(this.state, ...words);
-        const answer = answeredBetween(this.state, next);
-        this.become(answer ? this.remember(next, answer) : next, true);
+        const [answer, lesson] = [answeredBetween, learntBetween].map((what) =>
+            what(this.state, next));
+        const told = answer ? this.remember(next, answer) : next;
+        this.become(lesson ? this.learn(told, lesson) : told, true);
         this.ask();
     }
 

@@ -1,24 +1,21 @@
 // What the page knows as it begins, where an address leads, and what a student did. A state is a
 // plain object that stays as it is: each change makes a new one.
-import { readLink, writeLink } from "./link.js";
-import { EMPTY } from "./memory.js";
+import { dayOfTen, EMPTY } from "./memory.js";
+import { lessonOfDrill } from "./rooms.js";
 import { sameRoll } from "./rolls.js";
-import { ADDITIONS, isMiss, naturalOf } from "./rules.js";
+import { ADDITIONS, isMiss } from "./rules.js";
 import { AFRESH } from "./state/board.js";
 import {
-    answeredOf, chosenOf, drillGuesses, drillKey, heardOf, isFar, isTraining, keyOf, lessonOf, questionOf,
-    spoken,
+    answeredOf, chosenOf, drillGuesses, drillKey, heardOf, isFar, keyOf, lessonOf, modeOf,
+    questionOf, rightInEach, spoken,
 } from "./state/reads.js";
 import { askNext, changeDrill, NO_RUN } from "./state/training.js";
 import { readLessons } from "./trainer.js";
 
-// The address of the page as it begins.
-const START = writeLink(readLink(""));
-
 // The state of a link, before anything is known, on a page with these lessons.
 export function begin(link, lessons = []) {
     return placed({
-        ...link, // points, kept, title, roll, guess, bound, and what is trained
+        ...link, // page, points, kept, title, roll, guess, bound, and what is trained
         lessons, // those that come with the page
         given: null, // the one of the link or of a file, read
         isAnswered: false, // whether the answer of a lesson's step is open
@@ -49,6 +46,12 @@ export function begin(link, lessons = []) {
         answers: new Map(), // what the open database says of a position
         why: null, // and of a play that was guessed and loses: which one, and the sentences
         rolls: new Map(), // and of its 21 rolls
+        // A match that was given: what was read, and what its bearoff plays lost, once a database has
+        // graded them; why a text is none, and what was done with it
+        // The drill of a sheet for a class, with its questions and its key, once they are known; and
+        // why what was typed there is none, or what was done with it
+        sheet: null, sheetFault: "", sheetTold: "",
+        match: null, matchFault: "", matchTold: "",
         // The weights of one's own rule, why another one is none, and how far the rules of thumb
         // are off over the open database
         weights: ADDITIONS, weightFault: "", measures: null,
@@ -61,7 +64,6 @@ export function begin(link, lessons = []) {
         isMemoryOpen: false, // whether all that is kept is shown
         results: "", // the texts of a class's results
         resultTold: "", // what was done with the result of a drill
-        isStart: writeLink(link) === START, // whether it was opened without a link to something
     }, link);
 }
 
@@ -93,16 +95,16 @@ function placed(state, { isPlaced, faults = [] }) {
 
 // What another address states. Its database is for whoever loads it.
 export function visit(state, link) {
-    const { points, kept, title, roll, guess, bound, drill, estimate, lesson, text, step, place,
-        isPlaced } = link;
+    const { page, points, kept, title, roll, guess, bound, drill, estimate, lesson, text, step,
+        place, isPlaced } = link;
     const isSame = JSON.stringify(drill) === JSON.stringify(state.drill);
     const begun = isSame ? state : changeDrill(state, drill);
     const stated = {
-        ...begun, ...AFRESH, points, kept, title, roll, guess, bound, place, isPlaced,
+        ...begun, ...AFRESH, page, points, kept, title, roll, guess, bound, place, isPlaced,
     };
     const next = placed({ ...stated, estimate, lesson, text, step }, link);
     if (drill && !isPlaced && next.questions) return askNext(next, place);
-    const asked = questionOf(next) && isTraining(next) ? heardOf(next) : "";
+    const asked = questionOf(next) && modeOf(next).trains ? heardOf(next) : "";
     return { ...next, said: [next.notice, asked, spoken(next)].filter(Boolean).join(" ") };
 }
 
@@ -129,33 +131,53 @@ export function withPicks(state, all) {
     return { ...state, ...(run || {}), runs };
 }
 
-// The least that one of some plays loses.
-const leastLoss = (plays) => Math.min(...plays.map(({ loss }) => Number(loss)));
+// What one of some plays loses on average.
+const meanLoss = (plays) =>
+    Math.round(plays.reduce((sum, { loss }) => sum + Number(loss), 0) / plays.length);
 
 // What the reader's change has answered: a question of the drill, where it isn't asked once more,
 // or an estimate; or null.
 export function answeredBetween(before, after) {
     const { drill } = after;
     if (drill !== before.drill) return null;
-    // of today's ten, which other drills don't count for
-    const isLast = Boolean(drill?.due) && drill.ask === "play"
-        && answeredOf(after) === after.questions?.length;
+    // of today's ten, which other answers of the day don't count for
+    const ten = drill?.due && drill.ask === "play" && answeredOf(after) === after.questions?.length
+        ? dayOfTen(drill) : 0;
     if (drill?.ask === "play" && drillGuesses(after).length > drillGuesses(before).length) {
         const { at, roll, play } = after.guesses.at(-1);
         const { card } = after.questions.find((question) =>
             keyOf(question.points) === at && sameRoll(question.roll, roll));
         return {
             points: before.points, roll, theme: drill.theme, lost: Number(play.loss),
-            natural: leastLoss(naturalOf(chosenOf(before).plays)),
-            isMissed: isMiss(play), isLast, ...(card ? { card } : {}),
+            random: meanLoss(chosenOf(before).plays), level: drill.level ?? "any",
+            isMissed: isMiss(play), ten, ...(card ? { card } : {}),
         };
     }
     if (after.estimates.length <= before.estimates.length) return null;
     const estimate = after.estimates.at(-1);
     return {
         points: before.points, roll: null, theme: estimate.kind, lost: Number(estimate.error),
-        isMissed: isFar(estimate), isLast,
+        isMissed: isFar(estimate), ten,
     };
+}
+
+// What a change has brought of a lesson of the page: its number once its last step was answered or,
+// without a question there, reached; or, once its drill is done, with how much was right of how
+// much; or null.
+export function learntBetween(before, after) {
+    const { drill, lesson, step } = after;
+    if (drill) {
+        const [was, right] = [before, after].map(rightInEach);
+        const number = lessonOfDrill(drill);
+        return number !== null && drill === before.drill && right.length > 0
+            && was.includes(null) && !right.includes(null)
+            ? [number, right.filter(Boolean).length, right.length] : null;
+    }
+    const steps = lessonOf(after)?.steps;
+    if (!lesson || step !== steps.length) return null;
+    const isOpen = (state) => state.lesson === lesson && state.step === step
+        && (state.isAnswered || !steps[step - 1].answer);
+    return isOpen(after) && !isOpen(before) ? [lesson, 0, 0] : null;
 }
 
 // The state with what a student did up to a day, and why that isn't kept, or "".

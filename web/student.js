@@ -1,16 +1,15 @@
 // What is shown to a student who comes back: today's ten, what was done, and what of it is kept.
-import { h } from "./tree.js";
+import { button, h } from "./tree.js";
 import {
     BOXES, dueOn, isDoneOn, isKnown, ratingOf, SIZES, streak, todays, todaysEstimates, written,
 } from "./memory.js";
 import { ASKED, TEN } from "./questions.js";
-import { themeOf } from "./themes.js";
+import { LEVELS, themeOf } from "./themes.js";
 import { decimal } from "./texts.js";
 
 const SHOWN_DAYS = 14;
 
-const button = (key, text, click, more = {}) =>
-    h("button", { type: "button", "data-key": key, click, ...more }, text);
+export const levelWords = (level) => LEVELS.find(({ name }) => name === level).words.toLowerCase();
 
 const many = (count, one, more) => `${count} ${count === 1 ? one : more}`;
 
@@ -30,12 +29,14 @@ function told({ memory, day }) {
         return `Today\u2019s ten are done. ${comesBack({ memory, day })}`;
     }
     if (memory.days.length === 0) {
-        return "Ten plays, the same for all who begin today. What you miss comes back tomorrow.";
+        return "Each question shows a few checkers and two dice: move them so that all are off the "
+            + "board soonest. Ten questions, the first ones easy, some three minutes. What you miss "
+            + "comes back tomorrow.";
     }
-    const { due, theme } = todays(memory, day);
+    const { due, theme, level = "any" } = todays(memory, day);
     if (due.length === TEN) return "Ten that you missed come back. New ones follow these.";
-    const fresh = `${TEN - due.length} are new: ${themeOf(theme).words}`
-        + `${isKnown(memory) ? ", where you lose most" : ""}.`;
+    const fresh = `${TEN - due.length} are new: ${themeOf(theme).words}, ${levelWords(level)}`
+        + `${isKnown(memory) ? ", where you lose most" : ""}. Some three minutes.`;
     return due.length === 0 ? fresh
         : `${many(due.length, "that you missed comes", "that you missed come")} back, ${fresh}`;
 }
@@ -96,9 +97,11 @@ function all({ memory, isMemoryOpen, memoryFault, memoryTold }, act) {
             `; ${memory.learnt} learnt. `,
             "A miss comes back the next day, and each time that it is right, later; a further miss ",
             "takes it one step back."),
-        h("p", {}, "The rating looks at about the last fifty plays: 100 where nothing was lost, 0 ",
-            "where as much was lost as by the play that bears off the most checkers and then ",
-            "fills the most points."),
+        h("p", {}, "The rating begins at 0, and looks at about the last fifty plays: 100 where nothing ",
+            "was lost, 0 where as much was lost as by plays at random."),
+        memory.levels.length > 0 && h("p", { "data-key": "levels" }, "Levels, by the last twenty answers of each theme: ",
+            memory.levels.map(([theme, level]) =>
+                `${themeOf(theme).words}, ${levelWords(level)}`).join("; "), "."),
         memory.themes.length > 0 && themes(memory),
         h("p", {}, h("label", {}, "As a text ", h("textarea", {
             "data-key": "memory text", rows: 5, spellcheck: "false", value: written(memory),
@@ -145,7 +148,7 @@ export function student(state, act) {
                     fact("In a row", row, row === 1 ? "day" : "days"),
                     fact("Come back", dueOn(memory, day).length, "today"),
                     fact("Lost each", each, "rolls"),
-                    rating !== null && fact("Rating", rating, "of 100")),
+                    fact("Rating", rating < 0 ? `\u2212${-rating}` : rating, "of 100")),
                 lastDays(memory, day),
                 h("p", { class: "hint days-told" }, "The last fourteen days: dark is right."),
             ],

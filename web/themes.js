@@ -111,7 +111,8 @@ const isOf = (plays, { natural, others }) =>
 // is of a kind, or, where that is null, of any. In an easy one each rule is right, and the next
 // best loses much. In a mixed one the natural plays of those that tempt all lose something; of the
 // others one is best, and the next best loses little. In a hard one the next best loses little, and
-// which rules are right is planned, but where a theme's name is never natural.
+// which rules are right is planned, but where a theme's name is never natural. The first ten of a
+// student go through some levels, with so many questions of each.
 export const LEVELS = [
     { name: "any", words: "Any", isAsked: () => true },
     {
@@ -131,11 +132,20 @@ export const LEVELS = [
         isAsked: (plays, kind, { isTempting }) => (isTempting ? isClose(plays, NEAR)
             : isClose(plays, HARD) && (kind === null || isOf(plays, kind))),
     },
+    { name: "first", words: "First ten", steps: [["easy", 5], ["any", 3], ["mixed", 2]] },
 ];
 
+// The levels that one can choose, and those that a student goes through, the easiest first.
+export const CHOSEN = LEVELS.filter(({ steps }) => !steps);
+export const LADDER = ["easy", "any", "mixed", "hard"];
+
 // The levels that a theme has: where what it names is never natural, none is easy or mixed.
-export const levelsOf = ({ theme, ask }) => LEVELS.filter(({ name }) => name === "any"
-    || (ask === "play" && !themeOf(theme).without?.includes(name)));
+export const levelsOf = ({ theme, ask }) => LEVELS.filter(({ name, steps }) => name === "any"
+    || (ask === "play" && !(steps ? theme !== "all" : themeOf(theme).without?.includes(name))));
+
+// .. as a ladder.
+export const ladderOf = (theme) => LADDER.filter((level) =>
+    levelsOf({ theme, ask: "play" }).some(({ name }) => name === level));
 
 // Whether a theme asks the plays of a roll, the best first, of some level: where its words name
 // something that a play does, one does it and another doesn't. The best does it where the question

@@ -1,25 +1,21 @@
-// What is shown of a lesson, of a drill, of an estimate, and of what can be begun.
+// What is shown of a lesson, of a drill, and of an estimate.
 import { decimal } from "./texts.js";
 import { lookedAt } from "./board.js";
+import { link } from "./link.js";
 import { COMING, dicePicture } from "./panels.js";
 import { comesBack, counted } from "./student.js";
-import { h } from "./tree.js";
+import { button, fault, h } from "./tree.js";
 import { ASKED, askedFor, drillName, ESTIMATED, mostOf, TEN, WANTED } from "./questions.js";
-import { classOf, readResults } from "./results.js";
+import { wordsIn } from "./rooms.js";
 import { isMiss, OWN, WEIGHTS } from "./rules.js";
-import { LEVELS, themeOf, THEMES } from "./themes.js";
+import { LEVELS, themeOf } from "./themes.js";
 import { meanOf } from "./trainer.js";
 import {
-    answeredIn, answeredOf, askedIn, askedOf, drillErrors, drillGuesses, estimated, estimateOf,
-    hasBegun, isAgain, isFar, isTraining, lengthOf, lessonOf, meanError, measuredOf, missedOf,
-    mistakesOf, questionOf, scoreOf, stepOf, toldOf, toldStep,
+    answeredIn, answeredOf, askedIn, askedOf, drillErrors, drillGuesses, estimateOf, hasBegun, isFar,
+    lengthOf, lessonOf, meanError, measuredOf, missedOf, mistakesOf, modeOf, questionOf, rightInEach,
+    scoreOf, stepOf, toldOf, toldStep,
 } from "./state/reads.js";
 import { decimalOf, isShort, sumOfFractions } from "./fractions.js";
-
-const button = (key, text, click, more = {}) =>
-    h("button", { type: "button", "data-key": key, click, ...more }, text);
-
-const link = (words) => `#${new URLSearchParams(words).toString().replaceAll("%2C", ",")}`;
 
 // The heading of what is on, with how it ends.
 const head = (act, title) =>
@@ -28,21 +24,61 @@ const head = (act, title) =>
 
 // A way to look at a question's position with all that the page has; Back leads to the question
 // again.
-const lookAround = (state) => isTraining(state)
+const lookAround = (state) => modeOf(state).trains
     && [" ", h("a", { href: link({ at: state.points.join() }), "data-key": "look around" },
         "Look around"), "."];
 
-function lessonPanel(state, act) {
+// What was answered where one trains: what a play lost, or how far an estimate of a step was off.
+function answeredHere(state, verdict) {
+    const { trains, estimated, screen } = modeOf(state);
+    const estimate = screen === "step" && estimated && estimateOf(state);
+    return [
+        trains && verdict && h("p", { class: verdict.isMiss ? "verdict" : "verdict good" },
+            verdict.first,
+            !verdict.isMiss ? null : ` In EPC: ${decimalOf(verdict.pips)} pips.`),
+        estimate && h("p", { class: isFar(estimate) ? "verdict" : "verdict good" },
+            toldOf(estimate)),
+    ];
+}
+
+// How far a drill is: a mark for each question, which says whether it was right.
+function barOf(state) {
+    const right = rightInEach(state);
+    const count = (is) => right.filter((one) => one === is).length;
+    return h("p", {
+        class: "bar-of", role: "img",
+        "aria-label": `Of ${right.length}: ${count(true)} right, ${count(false)} missed`,
+    }, right.map((one, place) => h("span", {
+        class: [one !== null && (one ? "was-right" : "was-missed"), place === state.place && "now"]
+            .filter(Boolean).join(" ") || null,
+    })));
+}
+
+// Words that a beginner doesn't know, each explained at a tap.
+const explained = (words) => words.length > 0 && h("div", { class: "words" },
+    words.map(([name, , meaning]) => h("details", { "data-key": `word ${name}` },
+        h("summary", {}, name), h("p", {}, meaning))));
+
+const textsOf = ({ text, ask, answer }) => [text, ask, answer];
+
+// What the first question of a drill uses, and so is explained there.
+const usedIn = ({ ask }) => (ask === "play"
+    ? ["roll", "EPC", "pips"] : [WANTED[ask], ...(ask === "pips" ? [] : ["EPC", "roll"]), "pips"]);
+
+function lessonPanel(state, verdict, act) {
     const lesson = lessonOf(state);
     const { text, ask, answer, roll } = toldStep(state);
+    const before = lesson.steps.slice(0, state.step - 1).flatMap(textsOf);
     return h("div", { class: "coach" },
         head(act, lesson.title),
         h("p", { class: "how" }, `Step ${state.step} of ${lesson.steps.length}.`,
             lookAround(state)),
+        answeredHere(state, verdict),
+        explained(wordsIn([lesson.title, text, ask, answer], before.concat(before.length > 0 ? lesson.title : []))),
         text && h("p", { class: "says" }, text),
         (ask || roll) && h("p", { class: "asks" }, ask, roll && [" ", dicePicture(roll)]),
         answer && state.isAnswered && h("p", { class: "answers" }, answer),
-        !isTraining(state)
+        !modeOf(state).trains
             && h("p", { class: "steering" },
                 button("back to it", "Back to the step", () => act.step(state.step))));
 }
@@ -103,7 +139,7 @@ function soFar(state) {
 }
 
 // The title of a drill.
-function drillTitle(drill) {
+export function drillTitle(drill) {
     const { ask, level, due } = drill;
     if (due && ask === "play") return drillName(drill);
     const words = LEVELS.find(({ name }) => name === level)?.words.toLowerCase();
@@ -113,8 +149,9 @@ function drillTitle(drill) {
 
 // What a drill is drawn by, and where it has fewer questions than it asks for.
 function drawnBy({ drill, questions }) {
-    const { seed, theme, due } = drill;
-    const how = !due ? `Seed ${seed}.`
+    const { seed, theme, due, list } = drill;
+    const how = list ? `${list.length} positions.`
+        : !due ? `Seed ${seed}.`
         : due.length === 0 ? `Ten that are new: ${themeOf(theme).words}.`
         : `${counted(drill)}${due.length < TEN ? `: ${themeOf(theme).words}` : ""}.`;
     const [found, wanted] = [questions?.length, askedFor(drill)];
@@ -122,11 +159,13 @@ function drawnBy({ drill, questions }) {
         : `${how} ${found} of ${wanted} questions were found.`;
 }
 
-function drillPanel(state, act) {
+function drillPanel(state, verdict, act) {
     const { drill, questions, place } = state;
     const question = questionOf(state);
     return h("div", { class: "coach" },
         head(act, drillTitle(drill)),
+        questions && barOf(state),
+        answeredHere(state, verdict),
         !questions ? h("p", {},
             state.database?.bound < mostOf(drill)
                 ? `A drill of this theme needs ${mostOf(drill)} pips, and the open database has `
@@ -135,15 +174,16 @@ function drillPanel(state, act) {
             : question ? h("p", { class: "asks" }, askedIn(state),
                 question.roll && [" ", dicePicture(question.roll)])
             : [score(state), result(state, act)],
+        question && place === 0 && explained(wordsIn(usedIn(drill))),
         h("p", { class: "how" }, `${drawnBy(state)}${question ? soFar(state) : ""}`,
             lookAround(state)),
-        question && !isTraining(state) && h("p", { class: "steering" },
+        question && !modeOf(state).trains && h("p", { class: "steering" },
             button("back to it", "Back to the question", () => act.question(place))));
 }
 
-// The lesson or the drill that is on.
-export const coach = (state, act) =>
-    (stepOf(state) ? lessonPanel(state, act) : state.drill ? drillPanel(state, act) : []);
+// The lesson or the drill that is on, with the verdict on what was answered.
+export const coach = (state, verdict, act) => (stepOf(state) ? lessonPanel(state, verdict, act)
+    : state.drill ? drillPanel(state, verdict, act) : []);
 
 // What follows the last step of a lesson: the next one of the page, or its end.
 const afterLesson = ({ lesson, lessons }, isOpen, act) => (lesson && lesson < lessons.length
@@ -151,26 +191,22 @@ const afterLesson = ({ lesson, lessons }, isOpen, act) => (lesson && lesson < le
         class: isOpen ? "button" : "button first" }, "Next lesson")
     : button("finish", "End of the lesson", () => act.end(), { class: isOpen ? null : "first" }));
 
-// Where the thumb is, while one trains: the play that is made, what it lost, and the ways on.
-export function steering(state, making, verdict, act) {
-    if (!isTraining(state)) return [];
+// Where the thumb is, while one trains: the play that is made, and the ways on.
+export function steering(state, making, act) {
+    const { trains, estimated, screen } = modeOf(state);
+    if (!trains) return [];
     const step = stepOf(state);
     const { place, questions } = state;
     const count = step ? lessonOf(state).steps.length : lengthOf(state);
-    const isOpen = Boolean(making || (!step && estimated(state) && !estimateOf(state))
+    const isOpen = Boolean(making || (!step && estimated && !estimateOf(state))
         || (step?.answer && !state.isAnswered));
     const last = step ? state.step === count : place + 1 >= count && !isOpen;
     const begun = hasBegun(state);
-    const estimate = step && estimated(state) && estimateOf(state);
     const before = (isThere, what, click) => isThere && button(`previous ${what}`, "Previous", click);
     return [
         making && h("p", { class: "hint" }, making.play ? `${making.play.text}?`
             : begun ? "Where to? A ring marks each place."
             : "Move a checker, or choose from the list."),
-        verdict && h("p", { class: verdict.isMiss ? "verdict" : "verdict good" }, verdict.first,
-            !verdict.isMiss ? null : ` In EPC: ${decimalOf(verdict.pips)} pips.`),
-        estimate && h("p", { class: isFar(estimate) ? "verdict" : "verdict good" },
-            toldOf(estimate)),
         h("p", { class: "steering" },
             making?.play && button("made", `Play ${making.play.text}`,
                 () => act.play(making.play.text), { class: "first" }),
@@ -185,35 +221,44 @@ export function steering(state, making, verdict, act) {
                 : last ? afterLesson(state, isOpen, act)
                 : button("next step", "Next",
                     () => act.step(state.step + 1), { class: isOpen ? null : "first" }),
-            !step && questions?.length > 0 && place >= count
-                && button("another drill", "Another drill", () => act.another(),
-                    { class: "first" })),
+            screen === "review" && (state.drill.due
+                ? button("finish", "Done", () => act.end(), { class: "first" })
+                : questions.length > 0 && button("another drill", "Another drill",
+                    () => act.another(), { class: "first" }))),
     ];
 }
 
-// A drill as it is printed: each question with its board and a line to write on, and then what was
-// answered, with the score once it is over.
+// A sheet of a drill: a line for the name, and each question with its board and a line to write on.
+const sheet = ({ drill, questions }) => [
+    h("h2", {}, drillTitle(drill)),
+    h("p", { class: "name-line" }, "Name"),
+    h("p", {}, `${drawnBy({ drill, questions })} `,
+        drill.ask === "play" ? "Which play is best?" : askedOf(drill, null)),
+    h("ol", { class: "steps-printed drill-printed" },
+        (questions || []).map(({ points, roll }) => h("li", {},
+            lookedAt(points, []),
+            h("p", { class: "line" }, roll && dicePicture(roll))))),
+];
+
+const answers = (name, told, ...more) => h("div", { class: "answers-printed" },
+    h("h3", {}, name), h("ol", {}, told.map((text) => h("li", {}, text || "\u2013"))), more);
+
+// A drill as it is printed: its sheet, and then what was answered, with the score once it is over.
 function printedDrill(state) {
-    const { drill, questions } = state;
-    const told = (questions || []).map((question) => answeredIn(state, question));
+    const told = (state.questions || []).map((question) => answeredIn(state, question));
     return [
-        h("h2", {}, drillTitle(drill)),
-        h("p", {}, `${drawnBy(state)} `,
-            drill.ask === "play" ? "Which play is best?" : askedOf(drill, null)),
-        h("ol", { class: "steps-printed drill-printed" },
-            (questions || []).map(({ points, roll }) => h("li", {},
-                lookedAt(points, []),
-                h("p", { class: "line" }, roll && dicePicture(roll))))),
-        told.some(Boolean) && h("div", { class: "answers-printed" },
-            h("h3", {}, "Answers"),
-            h("ol", {}, told.map((text) => h("li", {}, text || "\u2013"))),
-            questions.length > 0 && !questionOf(state) && score(state)),
+        sheet(state),
+        told.some(Boolean) && answers("Answers", told,
+            state.questions.length > 0 && !questionOf(state) && score(state)),
     ];
 }
 
 // The whole lesson or drill as it is printed: each step with its board, and the answers at the end.
 export function printed(state) {
     const lesson = lessonOf(state);
+    if (modeOf(state).screen === "teacher") {
+        return state.sheet?.key ? [sheet(state.sheet), answers("Key", state.sheet.key)] : [];
+    }
     if (!lesson) return state.drill ? printedDrill(state) : [];
     const steps = lesson.steps.map((_, place) => toldStep(state, place));
     return [
@@ -273,7 +318,7 @@ const NAMES = WANTED;
 export const estimateField = (state, act) => [
     h("div", { class: "estimate" },
         h("label", {}, h("span", { class: "long" }, "Your estimate of the "),
-            h("span", { class: "short" }, NAMES[estimated(state)]), " ", h("input", {
+            h("span", { class: "short" }, NAMES[modeOf(state).estimated]), " ", h("input", {
             type: "text", "data-key": "estimate", inputmode: "decimal", autocomplete: "off",
             "aria-invalid": String(Boolean(state.estimateFault)),
             "aria-describedby": "estimate-why",
@@ -283,14 +328,11 @@ export const estimateField = (state, act) => [
     fault("estimate-why", state.estimateFault),
 ];
 
-// Beside a field, why what was typed there can't be taken; it is heard once it comes.
-const fault = (id, words) =>
-    h("div", { role: "alert", id }, words && h("p", { class: "trouble" }, words));
-
 // How far an estimate was off, and all of them; that of a lesson's step stands with its ways on.
 export function estimateTold(state) {
-    const estimate = estimated(state) && estimateOf(state);
-    if (!estimate || (isTraining(state) && stepOf(state))) return null;
+    const { estimated, screen } = modeOf(state);
+    const estimate = estimated && estimateOf(state);
+    if (!estimate || screen === "step") return null;
     return h("p", { class: "verdict" },
         `${toldOf(estimate)} The mean error so far is ${decimal(meanError(state))} pips.`);
 }
@@ -315,72 +357,8 @@ export function thumb(points, answer) {
         + `and ${OVER_ALL.mean} on average.`);
 }
 
-const choice = (key, name, options) => h("label", {}, `${name} `, h("select", { "data-key": key },
-    options.map(([value, text]) => h("option", { value }, text))));
-
-// What a class did in a drill, by the texts that its pupils send back.
-function ofClass({ results: text }, act) {
-    const { results, fault: why } = text.trim() === "" ? { results: [], fault: "" }
-        : readResults(text);
-    const known = results.length > 0 && classOf(results);
-    const unit = known && known.drill.ask !== "play" ? "pips" : "rolls";
-    const heads = ["Pupil", "answered", "missed", `lost, in ${unit}`];
-    const to = ({ drill: { theme, seed, ask, level }, place }) => link({
-        drill: theme, seed, ask, ...(level ? { level } : {}), question: place + 1,
-    });
-    return h("div", { class: "class" },
-        h("p", { class: "hint" }, "The link of a drill asks everybody the same, and its score has "
-            + "the result as a text. Paste here what comes back, one below the other."),
-        h("p", {}, h("textarea", {
-            "data-key": "results", rows: 3, spellcheck: "false", value: text,
-            "aria-label": "Results, one below the other",
-            "aria-invalid": String(Boolean(why)), "aria-describedby": "results-why",
-            change: ({ target }) => act.results(target.value),
-        })),
-        h("p", {}, button("show results", "Show", () => act.results())),
-        fault("results-why", why),
-        known && [
-            h("table", { class: "pupils" },
-                h("caption", {}, drillTitle(known.drill)),
-                h("thead", {}, h("tr", {}, heads.map((name) => h("th", { scope: "col" }, name)))),
-                h("tbody", {}, known.pupils.map(({ name, answered, missed, lost }) => h("tr", {},
-                    h("th", { scope: "row" }, name),
-                    [answered, missed, decimal(lost)].map((cell) => h("td", {}, cell)))))),
-            known.missed.length > 0 && h("p", {}, "Missed most: ",
-                known.missed.slice(0, MOST_NAMED).map(({ place, count }, number) => [
-                    number > 0 && ", ",
-                    h("a", { href: to({ drill: known.drill, place }), "data-key": `missed ${place}` },
-                        `question ${place + 1}`),
-                    ` by ${count} of ${results.length}`,
-                ]), "."),
-        ]);
-}
-
-const MOST_NAMED = 5; // questions that a class has missed
-
-// What can be begun: lessons, a drill, estimates.
-export const training = (state, act) => [
-    h("h3", {}, "Lessons"),
-    h("ol", { class: "lessons" }, state.lessons.map(({ title }, place) =>
-        h("li", {}, h("a", { href: link({ lesson: place + 1 }), "data-key": `lesson ${place + 1}` },
-            title)))),
-    h("p", {}, button("draft begin", "Make a lesson of your own", () => act.beginDraft())),
-    h("h3", {}, "A drill of twenty"),
-    h("p", { class: "choices" },
-        choice("theme", "Theme", THEMES.map(({ name, words }) => [name, words])),
-        choice("asked", "Asked", Object.entries(ASKED)),
-        choice("level", "Level", LEVELS.map(({ name, words }) => [name, words])),
-        h("label", {}, "Seed ", h("input", {
-            type: "text", "data-key": "seed", inputmode: "numeric", autocomplete: "off",
-            placeholder: "another",
-            "aria-invalid": String(Boolean(state.seedFault)), "aria-describedby": "seed-why",
-            keydown: ({ key }) => { if (key === "Enter") act.drill(); },
-        })),
-        button("begin drill", "Begin", () => act.drill())),
-    fault("seed-why", state.seedFault),
-    h("h3", {}, "Results of a class"),
-    ofClass(state, act),
-    h("h3", {}, "Estimate first"),
+// What there is to do with the free board besides: estimates, and a lesson of one's own.
+export const more = (state, act) => [
     h("p", { class: "choices" },
         h("label", {}, "Hide the numbers until you have estimated ", h("select", {
             "data-key": "estimated", value: state.estimate || "",
@@ -388,4 +366,5 @@ export const training = (state, act) => [
         }, ["", ...ESTIMATED].map((kind) =>
             h("option", { value: kind, selected: kind === (state.estimate || "") },
                 kind ? `the ${NAMES[kind]}` : "nothing"))))),
+    h("p", {}, button("draft begin", "Make a lesson of your own", () => act.beginDraft())),
 ];

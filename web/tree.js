@@ -11,6 +11,14 @@ export function h(tag, attributes = {}, ...children) {
     return { tag, attributes, children: children.flat(Infinity).filter(isThere) };
 }
 
+// A button, by a key that no other thing on the page has.
+export const button = (key, text, click, more = {}) =>
+    h("button", { type: "button", "data-key": key, click, ...more }, text);
+
+// Beside a field, why what was typed there can't be taken; it is heard once it comes.
+export const fault = (id, words) =>
+    h("div", { role: "alert", id }, words && h("p", { class: "trouble" }, words));
+
 // The attributes that an element was last given, among them its listeners.
 const given = new WeakMap();
 

@@ -42,6 +42,25 @@ export function drawn(database, drill) {
         ? [] : drawQuestions(drill, ROLLS, (points, roll) => choicesOf(database, points, roll));
 }
 
+// What is right in each question of a drill: its best play, with what the next best loses, or the
+// number that is asked.
+const keyOf = (database, { ask }, questions) => questions.map(({ points, roll }) => {
+    if (!roll) {
+        const { standing, effective, wastage } = answer(database, points);
+        return { pips: String(standing.pips), effective: effective?.text, wastage: wastage?.text }[ask];
+    }
+    const plays = playsOf(database, points, roll);
+    const next = plays.find(({ isBest }) => !isBest);
+    return `${plays.find(({ isRecorded }) => isRecorded).text}${
+        next ? `; the next loses ${next.lossText}` : ""}`;
+});
+
+// A sheet of a drill: its questions, and the key.
+export function sheetOf(database, drill) {
+    const questions = drawn(database, drill);
+    return { questions, key: keyOf(database, drill, questions) };
+}
+
 // The values of a lesson's steps, by their names, as texts; none of a position that the database
 // doesn't have.
 export const valuesOf = (database, steps) => steps.map(({ points, roll }) => {
@@ -61,6 +80,28 @@ export function again(database, { guesses, again: more, estimates, estimatesAgai
         plays: [...guesses, ...more].map(([points, roll]) => playsOf(database, points, roll)),
         answers: [...estimates, ...estimatesAgain].map(([points]) => answer(database, points)),
     };
+}
+
+// The bearoff plays of a match beside all plays of their rolls: of each what was played, with what
+// it loses, the best play, and how many there are; or only that its position is over the bound. One
+// that is no play of its roll makes all of it none, and is the fault.
+export function graded(database, turns) {
+    const rows = [];
+    for (const { points, dice, to, line, text } of turns) {
+        const roll = [...dice].sort((one, other) => other - one);
+        if (database.standing(points).pips > database.bound) {
+            rows.push(null);
+            continue;
+        }
+        const plays = playsOf(database, points, roll);
+        const play = plays.find((one) => one.to.join() === to.join());
+        if (!play) {
+            const what = `no play of ${dice.join("")} leads from ${points} to ${to}`;
+            return { rows: [], fault: ["illegal", line, what, text] };
+        }
+        rows.push({ play, best: plays.find(({ isRecorded }) => isRecorded), choices: plays.length });
+    }
+    return { rows, fault: null };
 }
 
 // Every position with a checker, and its effective pip count in thousandths.
@@ -118,7 +159,7 @@ export class Desk {
         return { count: this.counted.length, rows: measured(this.counted, weights) };
     }
 
-    async take({ kind, file, points, drill, picks, roll, to, weights, steps }) {
+    async take({ kind, file, points, drill, picks, roll, to, weights, steps, turns }) {
         switch (kind) {
             case "open":
                 this.tell({ from: 0.1, until: 1, usual: 400, text: "Checking the file\u2026" });
@@ -129,6 +170,8 @@ export class Desk {
                 return rollsOf(this.database, points);
             case "draw":
                 return drawn(this.database, drill);
+            case "sheet":
+                return sheetOf(this.database, drill);
             case "again":
                 return again(this.database, picks);
             case "why":
@@ -137,6 +180,8 @@ export class Desk {
                 return this.measure(weights);
             case "fill":
                 return valuesOf(this.database, steps);
+            case "grade":
+                return graded(this.database, turns);
             default:
                 throw new Error("no such question");
         }

@@ -43,6 +43,7 @@ function ask(line) {
     return asked.get(line);
 }
 const READY = 'document.body.dataset.ready && document.querySelector("#numbers .figures")';
+const HOME = 'document.body.dataset.ready && document.querySelector(\'[data-key="lesson 1"]\')';
 const KNOWN = '!document.querySelector(".figures").textContent.includes("\\u2026")';
 
 // Keeps what the bar shows, each position with the numbers beside it, and what the page's policy refuses. Without
@@ -176,7 +177,7 @@ async function compareBars(page) {
 }
 
 async function driveBoard(browser) {
-    const page = await browser.open(address, { before: WATCH });
+    const page = await browser.open(`${address}#at=2,2,2,2,2,2`, { before: WATCH });
     await page.until(READY);
     const [isMouse,
         how] = await page.value('[matchMedia("(hover: hover)").matches, document.getElementById("how").innerText]');
@@ -397,7 +398,7 @@ async function giveCounts(page, position) {
 // can't be had the first one goes on. Each number on the way is the program's.
 async function driveWider(browser) {
     const [near, far] = ["2,2,2,2,2,1", "0,0,0,3,5,7"];
-    const SHOWS = '[document.getElementById("open").textContent, document.getElementById("bar").hidden, document.getElementById("trouble").hidden, document.getElementById("wider").hidden]';
+    const SHOWS = '[document.getElementById("open").textContent, document.getElementById("bar").hidden, document.getElementById("trouble").hidden, !document.getElementById("wider")]';
     const isOpen = (page, bound) => page.until(`document.getElementById("open").textContent === "${bound} pips"`,
         60000);
 
@@ -423,7 +424,7 @@ async function driveWider(browser) {
     await compareWatched(fast, "fast", 2);
 
     // a slow one: nothing is built that nothing needs
-    const slow = await browser.open(address, { before: machine(5000, { late: 2500 }) + WATCH });
+    const slow = await browser.open(`${address}#at=2,2,2,2,2,2`, { before: machine(5000, { late: 2500 }) + WATCH });
     await slow.until(`${READY} && ${KNOWN} && document.querySelector(".rolls .next")`);
     await wait(500);
     equal("slow: not unasked", await slow.value(WORKERS), [["start 44", false]]);
@@ -456,7 +457,7 @@ async function driveWider(browser) {
     for (const [what, prefix] of [["no memory", NO_MEMORY],
             ["a worker that dies",
         "setTimeout(() => { throw new Error('gone'); }, 0); self.onmessage = () => {}; Object.defineProperty(self, 'onmessage', { set() {} });"]]) {
-        const page = await browser.open(address, { before: machine(500, { bad: 2, prefix }) + WATCH });
+        const page = await browser.open(`${address}#at=2,2,2,2,2,2`, { before: machine(500, { bad: 2, prefix }) + WATCH });
         await page.until(`${READY} && ${KNOWN} && document.querySelector(".rolls .next")`);
         await page.until("workers.length === 2 && workers[1].isEnded",
             5000).catch(() => wrong(`${what}: the second worker isn't let go`));
@@ -746,7 +747,7 @@ async function driveOlder(browser) {
     await compare(page, "with 32-bit addresses", "7,4,2,0,0,0");
     equal("nothing went wrong", page.troubles(), []);
     for (const [what, words] of [["WebAssembly", "runs no WebAssembly"], ["Worker", "runs no workers"]]) {
-        const poor = await browser.open(address, { before: `delete window.${what};` });
+        const poor = await browser.open(`${address}#at=2,2,2,2,2,2`, { before: `delete window.${what};` });
         await poor.until('!document.getElementById("trouble").hidden && document.querySelector("[role=spinbutton]")');
         equal(`no ${what}`,
             await poor.value(`document.getElementById("trouble").textContent.startsWith("Nothing can be computed here: this browser ${words}")`), true);
@@ -847,15 +848,16 @@ const NEXT = '[data-key="next question"]';
 // the program's.
 // What was missed is asked once more, and then counts for nothing.
 async function playDrill(page, hash, way, next) {
-    await page.until(`${READY} && document.querySelector('${NEXT}')`);
+    await page.until(`document.body.dataset.ready && document.querySelector('${NEXT}')`);
     const nearest = ([above, below]) => (Number((2000n * above + below) / (2n * below)) / 1000).toFixed(3);
     let sum = [0n, 1n];
     let [missed, right] = [0, 0];
     for (let place = 0; place < 20 + missed; place += 1) {
         const words = place < 20 ? `Question ${place + 1} of 20.` : `Once more, ${place - 19} of ${missed}.`;
         await page.until(`document.querySelector("#coach .asks").textContent.startsWith("${words}") && document.querySelector("#board .source") && document.querySelector(".plays")`);
-        const [position, roll, texts] = await page.value(`[document.getElementById("counts").value, document.querySelector('.rolls [aria-pressed="true"]').dataset.key.slice(5),
+        const [position, dice, texts] = await page.value(`[${SHOWN}.values, document.querySelector("#coach .asks .heard").textContent,
             [...document.querySelectorAll(".plays .moves")].map((node) => node.textContent)]`);
+        const roll = dice.startsWith("Double") ? dice.slice(-1).repeat(2) : dice.replace(" and ", "");
         const plays = ask(`moves ${position} ${roll}`).split(" ").slice(1).map((word) => word.split(":"));
         const losses = plays.map(([, loss]) => loss);
         if (losses.length < 2 || losses.filter((loss) => loss.startsWith("0/"))
@@ -866,8 +868,8 @@ async function playDrill(page, hash, way, next) {
             : plays.find(([, lost]) => lost.startsWith("0/"));
         const moves = movesTo(position, roll, to);
         await way(place)(page, moves, texts);
-        await page.until(`document.querySelector("#steering .verdict") && !document.querySelector("#steering .verdict").textContent.includes("\u2026")`);
-        const [verdict, shown, costs] = await page.value(`[document.querySelector("#steering .verdict").textContent, document.querySelector(".plays [aria-pressed=true] .moves").textContent,
+        await page.until(`document.querySelector("#coach .verdict") && !document.querySelector("#coach .verdict").textContent.includes("\u2026")`);
+        const [verdict, shown, costs] = await page.value(`[document.querySelector("#coach .verdict").textContent, document.querySelector(".plays [aria-pressed=true] .moves").textContent,
             document.querySelector(".plays [aria-pressed=true] .cost").title]`);
         equal(`${words} what was played`, effectOf(shown),
             effectOf(moves.map(([from, end]) => `${from}/${end || "off"}`).join(" ")));
@@ -922,7 +924,7 @@ async function driveDrill(browser) {
 
     const keys = "#drill=high&seed=5&ask=play&level=easy";
     const typed = await browser.open(address + keys);
-    await typed.until(`${READY} && document.querySelector("#board .source")`);
+    await typed.until('document.body.dataset.ready && document.querySelector("#board .source")');
     let tabs = 0;
     for (; tabs < 10
             && !(await typed.value('document.activeElement.classList.contains("to-play")')); tabs += 1) await typed.key("Tab");
@@ -953,7 +955,7 @@ async function driveSight(browser) {
     let [measured, actions] = [0, 0];
     for (const [width, height, mobile] of [[360, 780, true], [768, 1024, true], [1180, 800, false], [780, 360, true]]) {
         const page = await browser.open(address, { width, height, mobile });
-        await page.until(READY);
+        await page.until(HOME);
         const press = (selector) => page.value(`(() => {
             const element = document.querySelector(${JSON.stringify(selector)});
             element.focus();
@@ -977,8 +979,10 @@ async function driveSight(browser) {
             return at;
         };
         // from far below, where the lessons stand
-        const titles = await page.value('[...document.querySelectorAll(".lessons a")].map((link) => link.textContent)');
+        const titles = await page.value(`Array.from({ length: 17 }, (_, place) => document.querySelector('[data-key="lesson ' + (place + 1) + '"]').textContent)`);
         for (const [place, title] of titles.entries()) {
+            await page.value('location.hash = "#home"');
+            await page.until(HOME);
             await page.value(`(() => {
                 const link = document.querySelector('[data-key="lesson ${place + 1}"]');
                 link.focus();
@@ -1001,9 +1005,9 @@ async function driveSight(browser) {
                     await page.value('document.querySelectorAll("#coach .die").length'), hasRoll ? 2 : 0);
                 if (hasRoll) {
                     await press(".plays button:last-child");
-                    await page.until('document.querySelector("#steering .verdict") && !document.querySelector("#steering .verdict").textContent.includes("\u2026")');
+                    await page.until('document.querySelector("#coach .verdict") && !document.querySelector("#coach .verdict").textContent.includes("\u2026")');
                     await acted(`${name}, a play`);
-                    await look(`${name}, its verdict`, "#steering .verdict");
+                    await look(`${name}, its verdict`, "#coach .verdict");
                 }
                 if (hasAnswer) {
                     await press('[data-key="answer"]');
@@ -1021,7 +1025,7 @@ async function driveSight(browser) {
             }
         }
         await press('[data-key="end training"]');
-        equal("the end of a lesson", await acted("the end"), "train");
+        equal("the end of a lesson", await acted("the end"), "today");
 
         for (const [asked, level] of [["play", "hard"], ["effective", "any"]]) {
             await page.value(`(() => {
@@ -1058,9 +1062,9 @@ async function driveSight(browser) {
                         await acted(`${name}, undone`);
                     }
                     await press(`.plays button:${place < 2 ? `nth-child(${place + 1})` : "last-child"}`);
-                    await page.until('document.querySelector("#steering .verdict") && !document.querySelector("#steering .verdict").textContent.includes("\u2026")');
+                    await page.until('document.querySelector("#coach .verdict") && !document.querySelector("#coach .verdict").textContent.includes("\u2026")');
                     equal(`${name}: the focus is at the way on`, await acted(`${name}, played`), "next question");
-                    await look(`${name}, its verdict`, "#steering .verdict", NEXT);
+                    await look(`${name}, its verdict`, "#coach .verdict", NEXT);
                 } else {
                     await page.value('document.querySelector(".estimate input").value = "x"');
                     await press('[data-key="tell"]');
@@ -1086,7 +1090,7 @@ async function driveSight(browser) {
             await press('[data-key="previous question"]');
             await acted(`${asked}, previous`);
             await press('[data-key="end training"]');
-            equal("the end of a drill", await acted("the end"), "train");
+            equal("the end of a drill", await acted("the end"), "today");
         }
         equal(`${width} x ${height}: nothing went wrong`, page.troubles(), []);
     }
@@ -1098,7 +1102,7 @@ async function drivePlayed(browser) {
     const text = "lesson: One\nstep: 0,0,0,1,0,1\nroll: 52\nask: Which?\nstep: 0,0,0,4,4,1\nroll: 33\nask: Which?\nstep: 0,2,0,1,0,1\nroll: 31\nask: Which?";
     const page = await browser.open(`${address}#${new URLSearchParams([["text", text]])}`);
     const PLAYS = 'document.querySelector("#board .source")';
-    await page.until(`${READY} && ${PLAYS}`);
+    await page.until(`document.body.dataset.ready && ${PLAYS}`);
     const board = async () => (await page.value(SHOWN)).values;
     await page.drag(point(6), point(5));
     equal("a place where nothing goes", await board(), "0,0,0,1,0,1");
@@ -1115,8 +1119,8 @@ async function drivePlayed(browser) {
     equal("with both dice", await page.value('document.querySelector(\'[data-key="made"]\').textContent'),
         "Play 6/off");
     await page.click('[data-key="made"]');
-    await page.until('document.querySelector("#steering .verdict") && !document.querySelector("#steering .verdict").textContent.includes("\u2026")');
-    equal("its verdict", await page.value('document.querySelector("#steering .verdict").textContent'),
+    await page.until('document.querySelector("#coach .verdict") && !document.querySelector("#coach .verdict").textContent.includes("\u2026")');
+    equal("its verdict", await page.value('document.querySelector("#coach .verdict").textContent'),
         "6/off loses 0.056 of a roll; best is 6/1 4/2. In EPC: 0.454 pips.");
     for (const [way, to] of [["mouse", 0], ["keys", 1]]) {
         await page.click('[data-key="next step"]');
@@ -1141,24 +1145,25 @@ async function drivePlayed(browser) {
 // estimate.
 async function driveLessons(browser) {
     const page = await browser.open(address);
-    await page.until(READY);
+    await page.until(HOME);
     const count = await page.value('document.querySelectorAll(".lessons a").length');
     equal("how many lessons", count, 17);
     for (let number = 1; number <= count; number += 1) {
+        await page.value('location.hash = "#home"');
+        await page.until(HOME);
         const title = await page.value(`document.querySelector('[data-key="lesson ${number}"]').textContent`);
         await page.click(`[data-key="lesson ${number}"]`);
         await page.until(`document.querySelector("#coach h2")?.textContent === ${JSON.stringify(title)}`);
         for (let step = 1, last = false; !last; step += 1) {
             await page.until(`document.querySelector("#coach .how").textContent.startsWith("Step ${step} of")`);
-            const position = await page.value('document.getElementById("counts").value');
-            equal(`${title}, step ${step}`, (await page.value(SHOWN)).values, position);
-            const isNumber = await page.value(`document.querySelectorAll(".figure").length === 0`);
+            const position = (await page.value(SHOWN)).values;
+            const isNumber = await page.value('document.querySelector("#numbers") && !document.querySelector(".figure")');
             if (await page.value('Boolean(document.querySelector(\'[data-key="answer"]\'))')) {
                 equal(`${title}, step ${step}: closed`, await page.value('Boolean(document.querySelector(".answers"))'),
                     false);
                 await page.click('[data-key="answer"]');
                 await page.until('document.querySelector(".answers").textContent.length > 0');
-                await page.until(`document.querySelector(".figure") && ${KNOWN}`);
+                if (isNumber) await page.until(`document.querySelector(".figure") && ${KNOWN}`);
                 if (isNumber) equal(`${title}, step ${step}: its number`, (await page.value(SHOWN)).figures[2],
                     ask(`mean ${position}`).split(" ")[4]);
             }
@@ -1167,7 +1172,7 @@ async function driveLessons(browser) {
         }
     }
     const guess = await browser.open(`${address}#at=7,4,2,0,0,0&estimate=effective`);
-    await guess.until('document.body.dataset.ready && document.querySelector(".estimate input")');
+    await guess.until('document.querySelector(".rolls .next") && document.querySelector(".estimate input")');
     equal("no number before the estimate",
         await guess.value('document.querySelectorAll("#numbers .figure").length + document.querySelectorAll(".chances").length'), 0);
     await guess.click(".estimate input");
@@ -1207,7 +1212,7 @@ new MutationObserver(() => {
         const { left, top, width } = thing.getBoundingClientRect();
         return width > 0 ? [left + scrollX, top + scrollY] : null;
     };
-    if (!document.querySelector('[data-key="lesson 1"]')) return;
+    if (!document.querySelector('[data-key="lesson 1"], #board svg')) return;
     if (document.body.dataset.ready) places.seen += 1;
     places.first ||= new Map(things().map((thing) => [thing, placeOf(thing)]).filter(([, place]) => place));
     places.count = Math.max(places.count, places.first.size);
@@ -1220,14 +1225,18 @@ new MutationObserver(() => {
     }
 }).observe(document, { subtree: true, childList: true, characterData: true, attributes: true });`;
 
-// Nothing that can be clicked moves while the database is built and the first answers come, and beside the board nor
-// while another position is answered; so what was aimed at is what is clicked.
+// Nothing that can be clicked moves while the database is built and the first answers come, at home and beside the
+// board, and there nor while another position is answered; so what was aimed at is what is clicked.
 async function driveStill(browser) {
     for (const [width, height, mobile] of [[1280, 900, false], [768, 1024, true], [360, 780, true]]) {
-        const page = await browser.open(address, { width, height, mobile, before: PLACES });
+        const home = await browser.open(address, { width, height, mobile, before: PLACES });
+        await home.until(HOME);
+        await wait(1000);
+        const page = await browser.open(`${address}#at=2,2,2,2,2,2`, { width, height, mobile, before: PLACES });
         await page.until(`${READY} && ${KNOWN} && document.querySelector(".rolls .next")`);
-        const told = await page.value("[places.count > 40, places.seen > 1, places.moved.length, places.moved.slice(0, 3)]");
-        equal(`${width} x ${height}: what moved while the page began`, told, [true, true, 0, []]);
+        const told = "[places.count > 40, places.seen > 0, places.moved.length, places.moved.slice(0, 3)]";
+        equal(`${width} x ${height}: what moved at home`, await home.value(told), [true, true, 0, []]);
+        equal(`${width} x ${height}: what moved while the page began`, await page.value(told), [true, true, 0, []]);
         if (mobile) continue;
         await page.value('document.querySelector(\'[data-key="Remove 6"]\').click()');
         await page.until(`document.getElementById("said").textContent.startsWith("36 pips") && document.querySelector(".rolls .next")`);
@@ -1236,55 +1245,30 @@ async function driveStill(browser) {
     }
 }
 
-// Beside a lesson that was opened nothing that stands below it moves while its answers come.
-async function driveOpened(browser) {
-    const page = await browser.open(address);
-    await page.until(`${READY} && document.querySelector(".rolls .next")`);
-    const count = await page.value('document.querySelectorAll(".lessons a").length');
-    for (let number = 1; number <= count; number += 1) {
-        const far = await page.value(`(async () => {
-            const link = document.querySelector('[data-key="lesson ${number}"]');
-            const tick = (wait) => new Promise((keep) => setTimeout(keep, wait));
-            link.click();
-            while (document.querySelector("#coach h2")?.textContent !== link.textContent) await tick(0);
-            const below = document.querySelector('[data-key="lesson 4"]');
-            below.scrollIntoView({ block: "center" });
-            const first = below.getBoundingClientRect().top;
-            let most = 0;
-            for (const start = performance.now(); performance.now() - start < 400; await tick(2)) most = Math.max(most, Math.abs(below.getBoundingClientRect().top - first));
-            return most;
-        })()`);
-        equal(`how far the lessons moved when lesson ${number} was open`, far, 0);
-    }
-    equal("nothing went wrong", page.troubles(), []);
-}
-
 // Keeps a processor busy, until the test has ended at the latest.
 const BUSY = "const parent = process.ppid; while (process.ppid === parent);";
 
 // A click on a lesson opens it, whenever it comes: what is aimed at before the database is open is
-// clicked at each tenth millisecond from when the page is ready to half a second later, and another
-// lesson as soon as that one is open; at each other of these times on a busy machine.
+// clicked at each tenth millisecond from when the page is ready to half a second later, and its end as
+// soon as that one is open; at each other of these times on a busy machine.
 async function driveClicks(browser) {
     const lost = [];
-    const isOpen = (number) => `location.hash.includes("lesson=${number}&") && document.querySelector("#coach h2")?.textContent
-        === document.querySelector('[data-key="lesson ${number}"]').textContent`;
+    const isOpen = (number) => `location.hash.includes("lesson=${number}&") && document.querySelector("#coach h2")`;
     const clickAt = async (offset, number) => {
         const page = await browser.open(address);
         const place = await page.aim(`[data-key="lesson ${number}"]`);
         const early = !(await page.value("document.body.dataset.ready"));
-        await page.until(READY);
+        await page.until(HOME);
         await wait(offset);
         await page.press(place);
-        const opened = async (what, which) => {
-            const isLost = await page.until(isOpen(which), 10000).then(() => false, () => true);
+        const opened = async (what, is) => {
+            const isLost = await page.until(is, 10000).then(() => false, () => true);
             if (isLost) lost.push(`${what} at ${offset} ms`);
             return !isLost;
         };
-        const next = number % 15 + 1;
-        if (await opened("the first", number)) {
-            await page.click(`[data-key="lesson ${next}"]`);
-            await opened("the second", next);
+        if (await opened("the first", isOpen(number))) {
+            await page.click('[data-key="end training"]');
+            await opened("the way home", HOME);
         }
         equal("nothing went wrong", page.troubles(), []);
         await page.close();
@@ -1424,7 +1408,7 @@ async function drivePrint(browser) {
         await page.send("Emulation.setEmulatedMedia", { media: "print" });
         const [text, wide, thrown, others] = await page.value(`[document.getElementById("printed").innerText.replace(/\\s+/g, " "),
             [...document.querySelectorAll(".drill-printed .small")].filter((board) => board.getBoundingClientRect().width > 100).length,
-            document.querySelectorAll("#printed .die").length, [".top", "#rolls", "#coach", "#steering", "#train"].filter((part) => document.querySelector(part).offsetHeight > 0)]`);
+            document.querySelectorAll("#printed .die").length, [".top", "#rolls", "#coach", "#steering", "#review"].filter((part) => document.querySelector(part)?.offsetHeight > 0)]`);
         equal(`${hash} on paper`, [wide, thrown, others, words.filter((word) => !text.includes(word))],
             [boards, dice, [], []]);
         for (const [paper, width, height] of [["A4", 8.27, 11.69], ["US Letter", 8.5, 11]]) {
@@ -1449,7 +1433,7 @@ async function drivePrint(browser) {
         await page.send("Emulation.setEmulatedMedia", { media: "print" });
         const [text, boards, dice, others] = await page.value(`[document.getElementById("printed").innerText.replace(/\\s+/g, " "),
             [...document.querySelectorAll("#printed .small")].filter((board) => board.getBoundingClientRect().width > 100).map((board) => board.querySelectorAll("circle.checker").length),
-            document.querySelectorAll("#printed .die").length, [".top", "#rolls", "#coach", "#steering", "#train"].filter((part) => document.querySelector(part).offsetHeight > 0)]`);
+            document.querySelectorAll("#printed .die").length, [".top", "#rolls", "#coach", "#steering", "#review"].filter((part) => document.querySelector(part)?.offsetHeight > 0)]`);
         for (const part of [title, ...steps.flatMap((step) => [step.text, step.ask, step.answer])]) {
             if (!text.includes(part)) wrong(`${title} on paper is without "${part}"`);
         }
@@ -1637,7 +1621,7 @@ const PICTURED = [
         "#numbers .verdict"],
     ["estimating", "#lesson=17&step=4", ".worth .now",
         `document.querySelector(".estimate input").value = "57"; document.querySelector('[data-key="tell"]').click()`,
-        "#steering .verdict"],
+        "#coach .verdict"],
     ["own rule", "#lesson=17&step=6", ".worth .now", "scrollTo(0, 400)"],
     ["both sides", "#at=1,0,0,0,0,0", ".figures",
         `document.getElementById("counts").value = "XGID=-ABC--D------------a-b--c-:0:0:-1:12:0:0:0:0:10"; document.getElementById("counts").dispatchEvent(new Event("change"))`, ".sides"],
@@ -1717,7 +1701,7 @@ const OWN = {
     wider: driveWider, moments: driveMoments, older: driveOlder, hosted: driveHosted, touch: driveTouch,
         finger: driveFinger, print: drivePrint,
     audit: driveAudit, pictures: takePictures, drill: driveDrill, sight: driveSight, lessons: driveLessons,
-        still: driveStill, opened: driveOpened, clicks: driveClicks,
+        still: driveStill, clicks: driveClicks,
 };
 
 // Those in which each browser is.

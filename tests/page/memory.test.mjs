@@ -3,7 +3,8 @@
 import assert from "node:assert/strict";
 import { test } from "node:test";
 import {
-    answered, askedOn, BOXES, DAILY, dayOf, dueOn, EMPTY, isDoneOn, isKnown, MOST_CARDS, MOST_DAYS, MOST_LETTERS,
+    answered, askedOn, BOXES, DAILY, dayOf, dayOfTen, dueOn, EMPTY, isDoneOn, isKnown, learnt, levelOf, MOST_CARDS,
+    MOST_DAYS, MOST_LETTERS,
     ratingOf, readMemory, Store, streak, todays, todaysEstimates, VERSION, weakest, written,
 } from "../../web/memory.js";
 import { drawQuestions, drillOf, mostOf, readDue, TEN, writeDue } from "../../web/questions.js";
@@ -15,12 +16,12 @@ import { drawFrom } from "./stand_in.mjs";
 const question = (number = 0, theme = "all") =>
         ({ points: [number % 6, 2, Math.floor(number / 6) % 6, 0, 1, Math.floor(number / 36) % 4], roll: [3, 1],
         theme });
-const missed = (number, lost = 56, theme = "all") => ({ ...question(number, theme), lost, natural: 20, isMissed: true,
-        isLast: false });
-const right = (number, theme = "all") => ({ ...question(number, theme), lost: 0, natural: 20, isMissed: false,
-        isLast: false });
+const missed = (number, lost = 56, theme = "all") => ({ ...question(number, theme), lost, random: 20, level: "easy",
+        isMissed: true, ten: 0 });
+const right = (number, theme = "all") => ({ ...question(number, theme), lost: 0, random: 20, level: "easy",
+        isMissed: false, ten: 0 });
 const estimate = (lost, isMissed, kind = "effective") => ({ points: [1, 2, 3, 0, 0, 0], roll: null, theme: kind, lost,
-        isMissed, isLast: false });
+        isMissed, ten: 0 });
 const faultOf = (...lines) => readMemory(["bearoff memory 1", ...lines].join("\n")).fault;
 
 test("a miss comes back after 1, 3, 7, 21 and 60 days, and is learnt then", () => {
@@ -52,7 +53,7 @@ test("right before it is due changes nothing of it, and a miss takes it one box 
 test("what comes back counts for the theme of its own, and an estimate for what was estimated", () => {
     let memory = answered(EMPTY, missed(0, 56, "gaps"), 100);
     memory = answered(memory, right(0, "low"), 101);
-    memory = answered(answered(memory, right(1, "low"), 101), { ...estimate(2100, true), isLast: true }, 101);
+    memory = answered(answered(memory, right(1, "low"), 101), { ...estimate(2100, true), ten: 101 }, 101);
     assert.deepEqual(memory.themes, [["gaps", 2, 1, 56], ["low", 1, 0, 0], ["effective", 1, 1, 2100]]);
     assert.deepEqual(memory.days, [[100, 1, 1, 0], [101, 3, 1, 1]]);
     assert.deepEqual([memory.cards.length, memory.sizes, askedOn(memory, 101), askedOn(memory, 99)],
@@ -66,15 +67,13 @@ test("misses by their size", () => {
     assert.deepEqual(answered(memory, right(0), 7).sizes, [2, 2, 2]);
 });
 
-test("a rating: of what natural plays lose, the part that was not lost, of the last plays most", () => {
-    const after = (memory, count, lost, natural) => Array.from({ length: count }).reduce((so) => answered(so,
-            { ...right(0), lost, natural, isMissed: lost > 0 }, 7), memory);
-    assert.deepEqual([0, 19, 20].map((count) => ratingOf(after(EMPTY, count, 30, 40))), [null, null, 25]);
-    assert.deepEqual([[0, 40], [40, 40], [60, 40], [400, 40],
-            [0, 0]].map(([lost, natural]) => ratingOf(after(EMPTY, 30, lost, natural))), [100, 0, -50, -100, null]);
-    // where natural plays are right too they say nothing, and a play of theirs that loses does
-    assert.deepEqual([ratingOf(after(after(EMPTY, 20, 10, 20), 5, 0, 0)),
-            ratingOf(after(after(EMPTY, 20, 10, 20), 5, 20, 0)) < 30], [50, true]);
+test("a rating: of what plays at random lose, the part that was not lost, of the last plays most", () => {
+    const after = (memory, count, lost, random) => Array.from({ length: count }).reduce((so) => answered(so,
+            { ...right(0), lost, random, isMissed: lost > 0 }, 7), memory);
+    // it begins where one stands who plays at random, with ten plays that fade
+    assert.deepEqual([0, 1, 20, 400].map((count) => ratingOf(after(EMPTY, count, 30, 40))), [0, 1, 12, 25]);
+    assert.deepEqual([[0, 100], [100, 100], [150, 100], [1000, 100],
+            [0, 0]].map(([lost, random]) => ratingOf(after(EMPTY, 300, lost, random))), [100, 0, -50, -100, 0]);
     // a play counts a fiftieth less with each further one
     assert.deepEqual(after(EMPTY, 1, 30, 40).rating, [30000, 40000, 1]);
     assert.deepEqual(after(EMPTY, 2, 30, 40).rating, [59400, 79200, 2]);
@@ -109,8 +108,49 @@ test("bounds: the best known and cheapest are forgotten, and the oldest days", (
 function known(day) {
     let memory = answered(EMPTY, missed(0, 56, "low"), day - 4);
     for (const then of [day - 3, day]) memory = answered(memory, right(0, "gaps"), then);
-    return memory;
+    // on a level on which the stand-in has questions
+    return { ...memory, levels: [...DAILY.map((name) => [name, name === "fewer" ? "hard" : "mixed", ""])] };
 }
+
+// A student's theme after so many answers on its level.
+const climbing = (theme, level, ...are) => are.reduce((memory, isRight, place) => answered(memory,
+    { ...(isRight ? right : missed)(40 + place, 56, theme), theme, level }, 7), EMPTY);
+
+test("the first ten go up from easy ones, and then the level of a theme follows its last twenty answers", () => {
+    const { theme, level } = todays(EMPTY, 100);
+    assert.deepEqual([theme, level, todays(answered(EMPTY, right(0), 99), 100).level], ["all", "first", "easy"]);
+    const most = (plays) => Math.max(...plays.map(({ loss }) => Number(loss)));
+    // plays by the sum of a roll: easy, of any loss, and one that tempts
+    const drawn = drawQuestions(drillOf({ theme, level, seed: 100, ask: "play", due: [] }), ROLLS, ladderPlays);
+    assert.deepEqual(drawn.map(({ points, roll }) => most(ladderPlays(points, roll))),
+        [90, 90, 90, 90, 90, ...drawn.slice(5, 8).map(({ points, roll }) => most(ladderPlays(points, roll))), 30, 30]);
+    const [nine, ten] = [9, 10].map((count) => climbing("gaps", "easy", ...Array(count).fill(true)));
+    assert.deepEqual([nine, ten].map((memory) => levelOf(memory, "gaps")), ["easy", "any"]);
+    assert.deepEqual([nine.levels, ten.levels], [[["gaps", "easy", "111111111"]], [["gaps", "any", ""]]]);
+    // three of four stay, and so do answers of another level; under two of five go down, and the ends are ends
+    const quarters = [false, true, true, true];
+    assert.deepEqual(climbing("gaps", "easy", ...quarters, ...quarters, ...quarters, ...quarters, ...quarters, ...quarters)
+        .levels, [["gaps", "easy", "01110111011101110111"]]);
+    assert.deepEqual(climbing("gaps", "hard", ...Array(20).fill(true)).levels, []);
+    const at = (name, answers) => ({ ...EMPTY, levels: [["gaps", name, answers]] });
+    const next = (memory, isRight) => answered(memory, { ...(isRight ? right : missed)(1, 56, "gaps"), theme: "gaps",
+        level: levelOf(memory, "gaps") }, 7).levels[0];
+    assert.deepEqual([next(at("any", "000000111"), false), next(at("any", "000001111"), false),
+        next(at("easy", "000000000"), false), next(at("hard", "111111111"), true)],
+    [["gaps", "easy", ""], ["gaps", "any", "0000011110"], ["gaps", "easy", "0000000000"], ["gaps", "hard", "1111111111"]]);
+    assert.deepEqual([levelOf(EMPTY, "fewer"), levelOf(EMPTY, "low")], ["any", "easy"]);
+    // what comes back says nothing of new ones
+    const back = answered(answered(EMPTY, missed(0, 56, "gaps"), 1), right(0, "gaps"), 2);
+    assert.deepEqual(back.levels, [["gaps", "easy", "0"]]);
+});
+
+// Plays of which the first is best, and what the other loses goes by the roll.
+const ladderPlays = (points, [high, low]) => {
+    const [few, many] = [[1, 0, 0, 0, 0, 0], points.map((count) => Math.max(1, count))];
+    const isEasy = (high + low) % 2 === 0;
+    return (isEasy ? [few, many] : [many, few]).map((to, place) =>
+        ({ to, isBest: place === 0, loss: place === 0 ? 0n : isEasy ? 90n : 30n }));
+};
 
 test("from its third time on a question like it is asked, of its theme, and another one each day", () => {
     const memory = known(100);
@@ -142,8 +182,8 @@ const drawnPlays = [{ isBest: true, to: [1, 0, 0, 0, 0, 0], loss: 0n },
     { isBest: false, to: [2, 0, 0, 0, 0, 0], loss: 5n }];
 
 test("an answer to a question like it counts for the one that comes back", () => {
-    const [memory, like] = [known(100), { points: [9, 0, 0, 0, 0, 0], roll: [6, 5], theme: "all", natural: 0,
-            card: { points: question(0).points, roll: [3, 1] }, isLast: false }];
+    const [memory, like] = [known(100), { points: [9, 0, 0, 0, 0, 0], roll: [6, 5], theme: "all", random: 0,
+            level: "easy", card: { points: question(0).points, roll: [3, 1] }, ten: 0 }];
     const rightly = answered(memory, { ...like, lost: 0, isMissed: false }, 107);
     assert.deepEqual(rightly.cards, [{ ...question(0), theme: "low", box: 3, due: 128, lost: 56 }]);
     assert.deepEqual(rightly.themes, [["low", 4, 1, 56]]);
@@ -206,7 +246,7 @@ test("today's ten: at most ten that come back, the least known first, then the l
     for (let number = 0; number < 12; number += 1) memory = answered(memory, missed(number, number + 1),
         number < 4 ? 10 : 9);
     const { due, seed, ask, level } = todays(memory, 12);
-    assert.deepEqual([seed, ask, level], [12, "play", "mixed"]);
+    assert.deepEqual([seed, ask, level], [12, "play", "easy"]);
     const asked = (number) => ({ points: question(number).points, roll: [3, 1] });
     assert.deepEqual(due, [3, 2, 1, 0, 11, 10, 9, 8, 7, 6].map(asked));
     const few = { ...memory, cards: memory.cards.filter(({ lost }) => lost > 50 || lost < 3) };
@@ -238,8 +278,8 @@ test("what is missed comes back tomorrow, and no more waits than a student can a
             asked.forEach(({ points, roll }, place) => {
                 const isMissed = below(100) >= (place < due.length ? again : fresh);
                 if (isMissed) last.set(`${points} ${roll}`, day);
-                memory = answered(memory, { points, roll, theme, lost: isMissed ? 50 : 0, natural: 30, isMissed,
-                    isLast: place === TEN - 1 }, day);
+                memory = answered(memory, { points, roll, theme, lost: isMissed ? 50 : 0, random: 30, isMissed,
+                    ten: place === TEN - 1 ? dayOfTen(todays(EMPTY, day)) : 0 }, day);
             });
         }
         assert.ok(back >= 0, `of ${fresh} and ${again} in a hundred fewer than 95 % came back the next day`);
@@ -259,8 +299,35 @@ test("the theme that loses most for each answer, once each is known", () => {
         ["gaps", false, true]);
     assert.deepEqual(DAILY.map((_, day) => weakest(EMPTY, day)), DAILY);
     assert.deepEqual(DAILY, ["all", "low", "gaps", "middle", "high", "few", "fewer"]);
-    // where the natural play is never best, or the next loses little, it is called hard
-    assert.deepEqual(DAILY.map((_, day) => todays(EMPTY, day).level), [...Array(6).fill("mixed"), "hard"]);
+    // before there were levels each day asked the same one, which is called hard where none is mixed
+    const { memory } = readMemory(["bearoff memory 3", ...DAILY.map((name) => `theme ${name} 5 1 10`)].join("\n"));
+    assert.deepEqual(DAILY.map((name) => levelOf(memory, name)),
+        ["mixed", "any", "mixed", "mixed", "mixed", "mixed", "hard"].map((level, place) => (place === 1 ? "mixed" : level)));
+});
+
+test("ten are done by these ten alone, on their day or the next one", () => {
+    const done = (ten, day) => isDoneOn(answered(EMPTY, { ...right(0), ten }, day), ten);
+    assert.deepEqual([[7, 7], [7, 8], [7, 9], [8, 7]].map(([ten, day]) => done(ten, day)), [true, true, false, false]);
+    const memory = Array.from({ length: 30 }).reduce((so, _, place) => answered(so, right(place), 7), EMPTY);
+    assert.deepEqual([askedOn(memory, 7), isDoneOn(memory, 7), dayOfTen(todays(memory, 7)), todays(memory, 7).seed === 7],
+        [30, false, 7, false]);
+});
+
+test("a lesson that was read, and the best time that its drill was done", () => {
+    let memory = learnt(EMPTY, [3, 0, 0]);
+    assert.deepEqual(memory.lessons, [[3, 0, 0]]);
+    for (const [right, best] of [[7, 7], [5, 7], [9, 9], [0, 9]]) {
+        memory = learnt(memory, [3, right, right === 0 ? 0 : 10]);
+        assert.deepEqual(memory.lessons, [[3, best, 10]]);
+    }
+    memory = learnt(memory, [1, 0, 20]);
+    assert.deepEqual([memory.lessons, readMemory(written(memory)).memory], [[[1, 0, 20], [3, 9, 10]], memory]);
+    for (const line of ["lesson 0 1 1", "lesson 3 2 1", "lesson 3 1", "level gaps easy 2", "level gaps none -",
+        "level low hard -", "level ace any -", "level gaps easy 111111111111111111111"]) {
+        assert.equal(faultOf(line), "Line 2 can't be read.", line);
+    }
+    assert.equal(faultOf("lesson 3 1 1", "lesson 3 1 1"), "Line 3 can't be read.");
+    assert.equal(faultOf("level gaps any 01", "level gaps any -"), "Line 3 can't be read.");
 });
 
 test("the questions: first those that come back, and then new ones, the same by the day", () => {
@@ -320,22 +387,24 @@ test("a link has what comes back, and what can't be taken is said", () => {
 
 test("the text comes back", () => {
     let memory = answered(answered(EMPTY, missed(3, 56, "gaps"), 20000), estimate(2100, true), 20001);
-    memory = { ...answered(memory, { ...right(3), isLast: true }, 20001), learnt: 4 };
+    memory = { ...answered(memory, { ...right(3), ten: 20001 }, 20001), learnt: 4 };
     assert.equal(written(memory), [
-        "bearoff memory 3", "learnt 4", "sizes 0 1 0", "rating 54880 39600 2", "theme gaps 2 1 56",
+        "bearoff memory 4", "learnt 4", "sizes 0 1 0", "rating 54880 39600 2", "level gaps easy 0", "theme gaps 2 1 56",
             "theme effective 1 1 2100", "day 20000 1 1 0", "day 20001 2 1 1",
         "card 1,2,3,0,0,0 - effective 0 20002 2100", "card 3,2,0,0,1,0 31 gaps 1 20004 56",
     ].join("\n"));
     assert.deepEqual(readMemory(written(memory)), { memory, fault: "" });
     assert.deepEqual(readMemory(`\ufeff${written(memory).replaceAll("\n", "\r\n")}\r\n`).memory, memory);
     assert.deepEqual(readMemory(written(EMPTY)).memory, EMPTY);
+    const levels = [["gaps", "mixed", ""]];
     // a text of the first version, which had no estimates that come back, or of the second, which had no rating, is
     // read as it is
-    const [first, second] = [/ - |^rating/, /^rating/].map((none, place) => written(memory).replace("memory 3",
+    const [first, second] = [/ - |^rating|^level/, /^rating|^level/].map((none, place) => written(memory).replace("memory 4",
             `memory ${place + 1}`).split("\n").filter((line) => !none.test(line)).join("\n"));
     assert.deepEqual(readMemory(first).memory,
-        { ...memory, rating: EMPTY.rating, cards: memory.cards.filter(({ roll }) => roll) });
-    assert.deepEqual(readMemory(second).memory, { ...memory, rating: EMPTY.rating });
+        { ...memory, rating: EMPTY.rating, levels, cards: memory.cards.filter(({ roll }) => roll) });
+    assert.deepEqual(readMemory(second).memory, { ...memory, rating: EMPTY.rating, levels });
+    assert.deepEqual(readMemory(second.replace("memory 2", "memory 3")).memory.levels, levels);
     for (const { name } of THEMES) assert.equal(faultOf(`theme ${name} 1 1 1`), "");
 });
 
@@ -413,7 +482,7 @@ test("what a newer page has kept stays as it is", () => {
         const memory = store.change(EMPTY, (own) => answered(own, missed(1), 10));
         assert.deepEqual([memory.cards.length, localStorage.kept.get("bearoff memory")], [1, text]);
         assert.match(store.why,
-            /^What is kept here can't be read, and stays as it is\. (It is of version 4|Line 2 can't)/);
+            /^What is kept here can't be read, and stays as it is\. (It is of version 5|Line 2 can't)/);
         // until all is forgotten
         assert.deepEqual([store.forget(), store.why, localStorage.kept.size], [EMPTY, "", 0]);
         assert.equal(store.change(EMPTY, (own) => answered(own, missed(1), 10)).cards.length, 1);

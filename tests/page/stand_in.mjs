@@ -66,6 +66,7 @@ export class Window {
         this.listeners = new Map();
         this.printed = 0;
         this.copied = null;
+        this.TextDecoder = TextDecoder;
         this.WebAssembly = { validate: () => true };
         this.Worker = Worker;
         this.performance = { now: () => this.time };
@@ -180,12 +181,13 @@ export class Worker {
     async answerAll(bound = 44) {
         await settled();
         while (this.asked.length > 0) {
-            const { kind, points, drill, picks, roll, to, weights, steps } = this.asked[0].question;
+            const { kind, points, drill, picks, roll, to, weights, steps, turns } = this.asked[0].question;
             const plays = this.plays || rollsFrom;
             await this.answer({
                 ask: answerTo, rolls: plays, draw: () => drawFrom(drill), again: () => playedBefore(picks, plays),
                 why: () => whyFrom(points, roll, to), measure: () => measuredFrom(weights),
-                fill: () => steps.map((step) => valuesFrom(step, bound)),
+                fill: () => steps.map((step) => valuesFrom(step, bound)), sheet: () => sheetFrom(drill),
+                grade: () => gradedFrom(turns, bound),
             }[kind](points, bound));
         }
     }
@@ -299,9 +301,23 @@ export const playedBefore = ({ guesses, again, estimates, estimatesAgain }, play
     answers: [...estimates, ...estimatesAgain].map(([points]) => answerTo(points)),
 });
 
+// A sheet whose key names each question.
+const sheetFrom = (drill) => {
+    const questions = drawFrom(drill);
+    return { questions, key: questions.map(({ points, roll }) => `best of ${points} ${roll?.join("") ?? ""}`) };
+};
+
+// The plays of a match beside those of the rules, of which the first by its text is best.
+const gradedFrom = (turns, bound) => ({ fault: null, rows: turns.map(({ points, dice, to }) => {
+    const { plays } = legalFrom(points).find((one) => [...one.dice].sort().join() === [...dice].sort().join());
+    return pipsOf(points) > bound ? null
+        : { play: plays.find((play) => play.to.join() === to.join()), best: plays[0], choices: plays.length };
+}) });
+
 // A drill whose rolls all have a play that loses something, and none as good as the best, which
-// fills a point and bears off fewer.
-export const drawFrom = (drill) => drawQuestions(drill, ROLLS, (points) => [
-    { isBest: true, to: points.map((count) => Math.max(1, count)), loss: 0n },
-        { isBest: false, to: [1, 0, 0, 0, 0, 0], loss: 30n },
-]);
+// fills a point and bears off fewer; in an easy one that bears off fewer, and loses much.
+export const drawFrom = (drill) => drawQuestions(drill, ROLLS, (points) => {
+    const plays = [{ to: points.map((count) => Math.max(1, count)) }, { to: [1, 0, 0, 0, 0, 0] }];
+    return (drill.level === "easy" ? plays.reverse() : plays).map((play, place) =>
+        ({ ...play, isBest: place === 0, loss: place === 0 ? 0n : drill.level === "easy" ? 90n : 30n }));
+});

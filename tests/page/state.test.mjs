@@ -11,11 +11,13 @@ import { moved, verdict } from "../../web/panels.js";
 import { asSvg } from "../../web/picture.js";
 import { pressed } from "../../web/state/board.js";
 import { received, wanted } from "../../web/state/database.js";
-import { isFar, measuredOf, missedOf, missKey, mistakesOf, verdictOf } from "../../web/state/reads.js";
+import { isFar, measuredOf, missedOf, missKey, mistakesOf, modeOf, verdictOf } from "../../web/state/reads.js";
+import { drillOfLesson, fittingLesson, lessonOfDrill, ROOMS } from "../../web/rooms.js";
 import { begin } from "../../web/state.js";
 import { giveEstimate } from "../../web/state/training.js";
 import { drawQuestions, drillOf, mostOf, numbersFrom, kindsOf } from "../../web/questions.js";
 import { isNamed, LEVELS, levelsOf, positions, THEMES } from "../../web/themes.js";
+import { readResults } from "../../web/results.js";
 import { meanOf, readEstimate, readLessons, writeLesson } from "../../web/trainer.js";
 import { drawn } from "../../web/worker.js";
 import { thumb } from "../../web/training.js";
@@ -35,6 +37,8 @@ const equal = (name, is, wanted) => same(`${part}: ${name}`, is, wanted);
 class Used {
     constructor(hash = "", { protocol, before = () => {}, lessons = "", plays = rollsFrom } = {}) {
         this.document = newDocument();
+        // the parts of the page, also those that aren't on the screen
+        this.parts = new Map([...this.document.querySelectorAll("[id]")].map((node) => [node.id, node]));
         this.window = new Window(hash, protocol);
         before(this.window, this.document);
         this.session = start(this.document, this.window, { worker: "", wide: "wide", narrow: "narrow", lessons });
@@ -64,7 +68,7 @@ class Used {
         await this.ready(90, 900);
     }
 
-    at(name) { return this.document.getElementById(name); }
+    at(name) { return this.parts.get(name) ?? this.document.getElementById(name); }
 
     text(name) { return (this.at(name) || this.find(name)).textContent; }
 
@@ -76,6 +80,13 @@ class Used {
         return tell(element, "click", more);
     }
 
+    // Goes to another screen by its address.
+    async go(hash) {
+        this.window.type(hash);
+        await this.worker.answerAll(this.bound);
+        this.check(`at ${hash}`);
+    }
+
     async clicked(key, more) {
         this.click(key, more);
         this.check(`after ${key}`);
@@ -84,6 +95,7 @@ class Used {
     }
 
     get board() {
+        if (!this.at("board").firstChild?.querySelector("[data-point]")) return this.session.state.points;
         return [1, 2, 3, 4, 5, 6].map((point) =>
                 Number(this.at("board").querySelector(`[data-point="${point}"]`).getAttribute("data-count")));
     }
@@ -172,7 +184,7 @@ async function moments() {
     equal("and the board has", used.figures, ["36", own.mean.text, own.effective.text, own.wastage.text]);
 
     part = "two changes in one tick";
-    used = await Used.open();
+    used = await Used.open("#at=2,2,2,2,2,2");
     used.click("Remove 6");
     used.click("Remove 6");
     used.check("two");
@@ -186,7 +198,7 @@ async function moments() {
     equal("30 pips", used.figures[0], "30");
 
     part = "kept before the answer";
-    used = await Used.open();
+    used = await Used.open("#at=2,2,2,2,2,2");
     used.click("Add 1");
     used.click("keep");
     used.click("Remove 1");
@@ -231,13 +243,13 @@ async function moments() {
     equal("the bar is gone", used.at("bar").hidden, true);
 
     part = "a worker whose words can't be read";
-    used = new Used();
+    used = new Used("#at=2,2,2,2,2,2");
     used.worker.onmessageerror();
     await settled();
     equal("words", used.text("trouble").includes("can't be read"), true);
 
     part = "a build that fails";
-    used = new Used();
+    used = new Used("#at=2,2,2,2,2,2");
     await used.worker.refuse({ message: "no memory", status: 0, line: "" });
     equal("words", used.text("trouble"), "This didn't work: no memory.");
     equal("no wait", [used.at("bar").hidden, used.figures[0], used.text("numbers").includes("No database is open.")],
@@ -253,7 +265,7 @@ async function moments() {
     equal("the next one is", used.figures[0], "1");
 
     part = "a file that can't be read";
-    used = await Used.open();
+    used = await Used.open("#at=2,2,2,2,2,2");
     tell(used.document, "drop", { dataTransfer: { files: [{ arrayBuffer: async () => {
         throw new Error("a folder");
     } }] } });
@@ -261,7 +273,7 @@ async function moments() {
     equal("words", [used.text("trouble"), used.at("bar").hidden], ["This didn't work: a folder.", true]);
 
     part = "two loads";
-    used = await Used.open();
+    used = await Used.open("#at=2,2,2,2,2,2");
     tell(used.at("file"), "change", { target: { files: [file] } });
     await settled();
     used.click("Add 1");
@@ -333,7 +345,7 @@ async function wider() {
     }
 
     part = "90 pips on a slow machine";
-    used = await open("", 3000);
+    used = await open("#at=2,2,2,2,2,2", 3000);
     equal("not unasked", isBuilt(used), "none");
     const type = async (counts) => {
         used.at("counts").value = counts;
@@ -390,7 +402,7 @@ async function wider() {
     equal("the step that needs it", [used.board, isBuilt(used)], [wide, "none"]);
     await used.clicked("answer");
     equal("has its numbers", used.figures, numbersOf(wide));
-    used = await Used.open("", { lessons });
+    used = await Used.open("#at=2,2,2,2,2,2", { lessons });
     const before = Worker.made;
     await used.clicked("Add 6");
     equal("48 pips need it, once", isBuilt(used), "start 90");
@@ -768,7 +780,7 @@ async function typed() {
         ["1.5,2,2,2,2,2", "A count is a whole number; commas or spaces stand between the six."],
             ["-1,2,2,2,2,2", "A count is a whole number; commas or spaces stand between the six."],
     ]) equal(`why not ${text}`, readCounts(text), { fault });
-    const used = await Used.open();
+    const used = await Used.open("#at=2,2,2,2,2,2");
     tell(used.at("counts"), "change", { target: { value: "9,9,0,0,0,0" } });
     equal("refused", [used.text("why"), used.at("why").hidden, used.at("counts").value,
             used.at("counts").getAttribute("aria-invalid")],
@@ -1126,7 +1138,7 @@ async function addresses() {
     equal("is followed by the next", kept.window.location.hash, "#at=3,0,0,0,1,0");
 
     part = "a link that is set in an open page";
-    const open = await Used.open();
+    const open = await Used.open("#at=2,2,2,2,2,2");
     open.window.pass(1000);
     open.window.type("#at=0,0,0,3,5,3&pips=90&p=1,1,0,0,0,0&c=first");
     open.check("set");
@@ -1150,7 +1162,7 @@ async function addresses() {
     equal("twice the same", readLink("#p=1,0,0,0,0,0&c=a&p=2,0,0,0,0,0&p=1,0,0,0,0,0&c=b&p=9,9,0,0,0,0&c=x")
             .kept.map(({ points, caption }) => `${points[0]} ${caption}`), ["1 a", "2 "]);
 
-    const same = await Used.open();
+    const same = await Used.open("#at=2,2,2,2,2,2");
     same.window.pass(1000);
     same.window.type("#at=2,2,2,2,2,2&pips=90");
     await settled();
@@ -1158,7 +1170,7 @@ async function addresses() {
         [same.worker.asked.length, Worker.last.asked.map(({ question }) => question.kind)], [0, ["start"]]);
 
     part = "a browser that takes no more addresses";
-    const full = await Used.open("", { before: (window) => {
+    const full = await Used.open("#at=2,2,2,2,2,2", { before: (window) => {
         window.history.pushState = () => { throw new Error("too many"); };
     } });
     full.window.pass(1000);
@@ -1174,7 +1186,7 @@ async function addresses() {
     equal("and the link that is copied is of now", full.window.copied, "https://here/page.html#at=4,2,2,2,2,2");
 
     part = "Copy the link";
-    const copied = await Used.open();
+    const copied = await Used.open("#at=2,2,2,2,2,2");
     copied.click("Add 1");
     copied.click("Add 1");
     copied.click("copy");
@@ -1184,12 +1196,12 @@ async function addresses() {
         ["The link is copied.", "Copied", true]);
     copied.window.pass(2000);
     equal("and then no more", copied.text("copy"), "Copy the link");
-    const disk = await Used.open("", { protocol: "file:" });
+    const disk = await Used.open("#at=2,2,2,2,2,2", { protocol: "file:" });
     disk.click("copy");
     await settled();
     equal("on a disk", disk.text("copied"),
         "The link is copied. This page is a file of this device, so the link opens only here.");
-    const shut = await Used.open("", { before: (window, document) => {
+    const shut = await Used.open("#at=2,2,2,2,2,2", { before: (window, document) => {
         window.navigator = {};
         document.getElementById("link").hidden = true;
     } });
@@ -1202,13 +1214,13 @@ async function addresses() {
 
 async function older() {
     part = "browsers that can't";
-    let used = new Used("", { before: (window) => { delete window.WebAssembly; window.WebAssembly = null; } });
+    let used = new Used("#at=2,2,2,2,2,2", { before: (window) => { delete window.WebAssembly; window.WebAssembly = null; } });
     equal("no WebAssembly", used.text("trouble")
             .startsWith("Nothing can be computed here: this browser runs no WebAssembly"), true);
     equal("the board is there", [used.board, used.figures[0]], [[2, 2, 2, 2, 2, 2], "\u2013"]);
     used.click("Add 1");
     equal("and is set", [used.board[0], used.figures[0]], [3, "\u2013"]);
-    used = new Used("", { before: (window) => { window.Worker = undefined; } });
+    used = new Used("#at=2,2,2,2,2,2", { before: (window) => { window.Worker = undefined; } });
     equal("no workers", used.text("trouble").startsWith("Nothing can be computed here: this browser runs no workers"),
         true);
     for (const [hash, bound] of [["", 44], ["#pips=90", 44], ["#at=0,0,0,3,5,3", 90], ["#at=0,0,0,0,0,15", 90],
@@ -1317,7 +1329,7 @@ function trained() {
         [levelsOf({ theme: "fewer", ask: "play" }), levelsOf({ theme: "all", ask: "pips" }),
         levelsOf({ theme: "low", ask: "play" }), levelsOf({ theme: "all", ask: "play" })].map((levels) =>
             levels.map(({ name }) => name).join()),
-        ["any,hard", "any", "any,easy,mixed", "any,easy,mixed,hard"]);
+        ["any,hard", "any", "any,easy,mixed", "any,easy,mixed,hard,first"]);
     equal("a drill has one of them", [drillOf({ theme: "fewer", seed: 1, ask: "play", level: "easy" }),
             drillOf({ theme: "all", seed: 1, ask: "wastage", level: "hard" })].map(({ level }) => level),
         [undefined, undefined]);
@@ -1384,8 +1396,8 @@ async function drills() {
     equal("what the window is called", used.document.title, "Question 1 of 20: Gaps \u2013 Bearing off");
     equal("nothing edits a position", ["Add 1", "Remove 1", "clear", "close", "onward"].map((key) => used.find(key)),
         Array(5).fill(null));
-    equal("its best play is hidden", [used.text("plays").includes("Which play is best?"),
-            used.text("grid").includes("/")], [true, false]);
+    equal("its best play is hidden", [used.plays().length, used.at("plays").querySelector(".cost"), used.text("grid")],
+        [3, null, ""]);
     equal("no score yet", used.text("coach").includes("lost"), false);
     for (const [place, { points, roll: [high, low] }] of asked.entries()) {
         equal(`question ${place + 1}`, [used.board.join(), used.text("coach").includes(`Question ${place + 1} of 20`)],
@@ -1394,7 +1406,7 @@ async function drills() {
         if (place < 7) await used.clicked(`play ${high}/1 ${low}/2`);
         else if (place < 19) await used.clicked(`play ${high}/off ${low}/1`);
         if (place < 19) {
-            equal(`the verdict of question ${place + 1}`, used.at("steering").querySelector(".verdict").textContent,
+            equal(`the verdict of question ${place + 1}`, used.at("coach").querySelector(".verdict").textContent,
                 place < 7 ? `${high}/1 ${low}/2 loses 0.056 of a roll; best is ${high}/off ${low}/0. In EPC: 0.454 pips.`
                     : `${high}/off ${low}/1 is best, as is ${high}/off ${low}/0.`);
             equal(`the focus after question ${place + 1}`, [used.focus(), used.text("next question")],
@@ -1408,8 +1420,7 @@ async function drills() {
     for (const [place, { points, roll: [high, low] }] of missed.entries()) {
         equal(`once more, ${place + 1}`, [used.board.join(),
                 used.text("coach").includes(`Once more, ${place + 1} of 7.`),
-            used.text("plays").includes("Which play is best?"), used.text("grid").includes("/")],
-            [points.join(), true, true, false]);
+            used.at("plays").querySelector(".cost"), used.text("grid")], [points.join(), true, null, ""]);
         await used.clicked(place < 3 ? `play ${high}/off ${low}/0` : `play ${high}/1 ${low}/2`);
         equal(`the way on from there, ${place + 1}`, used.text("next question"), place < 6 ? "Next" : "Score");
         await used.clicked("next question");
@@ -1417,7 +1428,7 @@ async function drills() {
     equal("what was missed", used.text("coach").includes("7 were missed; asked once more, 3 were right."), true);
     equal("what the window is called at the end", used.document.title, "Drill: Gaps \u2013 Bearing off");
     equal("what is heard at the end", [used.text("said"), used.focus(), used.plays(),
-            used.at("steering").querySelector(".verdict")], ["The drill is over.", "coach", [], null]);
+            used.at("coach").querySelector(".verdict")], ["The drill is over.", "coach", [], null]);
     equal("the score", used.text("coach")
             .includes("19 of 20 were played. They lost 0.389 rolls, or 3.176 pips of EPC. Exactly: 7/18 of a roll."),
         true);
@@ -1440,15 +1451,15 @@ async function drills() {
         ["gaps", false, 0, true, "coach"]);
     await used.clicked("end training");
     equal("it ends", [used.at("coach").hidden, used.session.state.guess, used.focus(), used.text("said")],
-        [true, false, "train", "The drill is over."]);
-    equal("what the window is called then", [used.document.title.endsWith("borne off \u2013 Bearing off"),
-            (await Used.open("#at=0,0,0,0,0,0&t=My title")).document.title], [true, "My title \u2013 Bearing off"]);
+        [true, false, "today", "The drill is over."]);
+    equal("what the window is called then", [used.document.title,
+            (await Used.open("#at=0,0,0,0,0,0&t=My title")).document.title], ["Bearing off, proved", "My title \u2013 Bearing off"]);
 
     part = "a drill of estimates";
     used = new Used("#drill=ace&seed=3&ask=effective");
     await used.worker.answer({ bound: 44, positions: 26313 });
     equal("while it is drawn nothing is estimated", [used.find("estimate"), used.figures, used.text("numbers")],
-        [null, [], "\u2026"]);
+        [null, [], ""]);
     used = await Used.open("#drill=ace&seed=3&ask=effective");
     equal("fifteen stacks", used.session.state.questions.length, 15);
     equal("hidden", [used.figures, used.text("chances"), used.text("said").includes("effective")], [[], "", false]);
@@ -1570,6 +1581,7 @@ async function drills() {
     await used.worker.answerAll();
     equal("off", [used.session.state.estimate, used.figures.length], [null, 4]);
     const { document } = used;
+    await used.go("#home");
     document.querySelector('[data-key="theme"]').value = "ace";
     document.querySelector('[data-key="asked"]').value = "play";
     document.querySelector('[data-key="seed"]').value = "5";
@@ -1775,7 +1787,7 @@ async function making() {
     equal("a play of the list ends what was begun",
         [used.session.state.steps, used.board, used.session.state.guesses.length], [[], [0, 0, 0, 1, 0, 1], 1]);
     await used.worker.answerAll();
-    equal("its verdict", used.at("steering").querySelector(".verdict").textContent,
+    equal("its verdict", used.at("coach").querySelector(".verdict").textContent,
         "6/off loses 0.056 of a roll; best is 6/1 4/2. In EPC: 0.454 pips.");
     const both = () => [...used.at("board").querySelectorAll("figure")].map((one) =>
             [one.querySelector("figcaption").textContent.trim(), one.getAttribute("class"),
@@ -1839,7 +1851,7 @@ async function runs() {
     await used.worker.answerAll();
     used.check("Back");
     equal("Back to the first", [used.board, used.text("coach").includes("Question 1 of 20."),
-            used.text("coach").includes(soFar), used.at("steering").querySelector(".verdict") !== null],
+            used.text("coach").includes(soFar), used.at("coach").querySelector(".verdict") !== null],
         [asked[0].points, true, true, true]);
     used.window.go(1 - used.window.place - 1);
     used.window.type("#at=1,0,0,0,0,0");
@@ -1870,7 +1882,7 @@ async function runs() {
         asked.slice(0, 3).map(({ roll: [high, low] }) => `${high}/off ${low}/0`));
     await used.clicked("previous question");
     equal("what was answered stays answered",
-        [used.at("steering").querySelector(".verdict") !== null, used.find("made"), used.text("next question")],
+        [used.at("coach").querySelector(".verdict") !== null, used.find("made"), used.text("next question")],
         [true, null, "Next"]);
     used = await again(`${hash}&question=4&at=1,1,0,0,0,0`);
     equal("a reload over another position", [used.board, used.session.state.guesses.length,
@@ -1882,6 +1894,7 @@ async function runs() {
     equal("another drill has its own", used.session.state.guesses.length, 0);
     equal("a run that isn't finished is there at its link", (await again(hash)).session.state.guesses.length, 3);
     used = await again(hash);
+    await used.go("#home");
     used.find("theme").value = "gaps";
     used.find("seed").value = " 7 ";
     await used.clicked("begin drill");
@@ -1949,7 +1962,7 @@ async function runs() {
             used.session.state.again.map(({ play }) => play.isBest), used.session.state.guesses.length],
         [true, [true], 4]);
     await used.clicked("previous question");
-    equal("the right one once more", used.at("steering").querySelector(".verdict.good") !== null, true);
+    equal("the right one once more", used.at("coach").querySelector(".verdict.good") !== null, true);
 
     part = "Guess first is turned off";
     used = await again(`${hash}&question=4&at=1,1,0,0,0,0`);
@@ -2050,20 +2063,23 @@ async function silence() {
     }
     const seeds = [];
     for (let count = 0; count < 3; count += 1) {
+        await used.go("#home");
         used.find("seed").value = "";
         await used.clicked("begin drill");
         seeds.push(used.session.state.drill.seed);
-        equal("a seed of its own", [used.text("seed-why"), used.text("coach").includes(`Seed ${seeds.at(-1)}`)],
+        equal("a seed of its own", [used.session.state.seedFault, used.text("coach").includes(`Seed ${seeds.at(-1)}`)],
             ["", true]);
     }
     equal("each another", new Set(seeds).size, 3);
     equal("of the size that a link can have",
         seeds.every((seed) => Number.isInteger(seed) && seed > 0 && seed <= 999999999), true);
+    await used.go("#home");
     used.find("theme").value = "ace";
     used.find("asked").value = "play";
     await used.clicked("begin drill");
     equal("nothing to play on the ace point", [used.session.state.drill.ask, used.text("notice")],
         ["effective", "Ace point alone: nothing is to be decided there, so the EPC is asked."]);
+    await used.go("#home");
     used.find("theme").value = "gaps";
     used.find("level").value = "hard";
     tell(used.find("seed"), "keydown", { key: "Enter" });
@@ -2074,6 +2090,7 @@ async function silence() {
             "How many to bear off: no question there is easy, so any are asked."],
         ["fewer", "play", "mixed", "How many to bear off: no question there is mixed, so any are asked."],
         ["all", "wastage", "hard", "Plays alone are hard: any positions are asked."], ["fewer", "play", "hard", ""]]) {
+        await used.go("#home");
         [used.find("theme").value, used.find("asked").value, used.find("level").value] = [theme, ask, level];
         await used.clicked("begin drill");
         equal(`${theme}, ${ask}, ${level}: no level goes in silence`, used.text("notice"), words);
@@ -2146,7 +2163,7 @@ async function editing() {
             used.text("coach").includes("Which?"), used.focus()], [wanted, true, [0, 0, 0, 1, 0, 1], true, "coach"]);
     await used.clicked("end training");
     equal("and edited on", [used.at("editing").hidden, keys()], [false, ["0,0,0,1,0,1", "3,0,0,0,0,0"]]);
-    const anew = await Used.open("", { before: (window) => { window.stored = used.window.stored; } });
+    const anew = await Used.open("#at=1,0,0,0,0,0", { before: (window) => { window.stored = used.window.stored; } });
     equal("after the page was loaded anew", [anew.at("editing").hidden, anew.session.state.draft],
         [false, used.session.state.draft]);
     for (const text of ["{", "7", '{"title":1,"steps":[]}', '{"title":"x","steps":[{"points":[99]}]}',
@@ -2322,13 +2339,226 @@ async function reasons() {
             free.session.state.why], [true, true, null]);
 }
 
+// Which parts of the page are in the document on each screen, and how one goes from one to the other.
+async function screens() {
+    const PARTS = ["coach", "steering", "review", "today", "path", "doors", "games", "teaching", "top", "setting", "how", "right",
+        "rolls", "heading", "grid", "keeping", "editing", "more", "printed", "promise", "tools", "foot", "whole"];
+    const there = (used) => PARTS.filter((name) => used.document.getElementById(name)).join(" ");
+    const on = (used) => modeOf(used.session.state).screen;
+    const FREE = "top setting how right rolls heading grid more promise tools foot";
+    const lessons = "lesson: One\nstep: 0,0,0,1,0,1\nroll: 52\ntext: On the EPC.\nask: Which?\nanswer: That.";
+    part = "what is on each screen";
+    for (const [hash, screen, parts] of [
+        ["", "home", "today path doors promise foot"], ["#home", "home", "today path doors promise foot"],
+        ["#games", "games", "games promise foot"], ["#teacher", "teacher", "teaching printed promise foot"], ["#at=2,2,2,2,2,2", "board", FREE],
+        ["#p=1,0,0,0,0,0", "board", FREE.replace("grid", "grid keeping")],
+        ["#view=board&at=1,0,0,0,0,0", "embedded", "top right whole"],
+        ["#lesson=1", "step", "coach steering top rolls printed"],
+        ["#drill=gaps&seed=7&ask=play", "question", "coach steering top rolls printed"],
+        ["#drill=gaps&seed=7&ask=pips", "question", "coach steering top right printed"],
+        ["#drill=gaps&seed=7&ask=play&at=2,2,2,2,2,2", "board", `coach ${FREE}`],
+    ]) {
+        const used = await Used.open(hash, { lessons });
+        equal(`at "${hash}"`, [on(used), there(used), used.document.body.dataset.screen], [screen, parts, screen]);
+        equal(`at "${hash}", the loud`, used.document.querySelectorAll(".first").length <= 1, true);
+    }
+
+    part = "from home to the review, and Back";
+    const used = await Used.open("", { lessons });
+    await used.clicked("today");
+    const { questions } = used.session.state;
+    equal("a question", [on(used), used.document.querySelectorAll(".bar-of span").length,
+        used.document.querySelectorAll(".bar-of .now").length, used.document.querySelector("#coach .verdict")],
+    ["question", 10, 1, null]);
+    const waiting = new Used("#drill=gaps&seed=7&ask=play");
+    equal("while questions are drawn", [on(waiting), there(waiting)], ["waiting", "coach steering"]);
+    for (const [place, { roll }] of questions.entries()) {
+        await used.clicked(place === 3 ? losing(roll) : best(roll));
+        used.window.pass(1000);
+        if (place > 4) { await used.clicked("next question"); continue; }
+        equal(`the verdict of ${place}`, [on(used), used.document.querySelector("#coach .verdict").textContent.includes(
+            place === 3 ? "loses 0.056" : "is best")], ["verdict", true]);
+        equal(`the bar at ${place}`, [...used.document.querySelectorAll(".bar-of span")].map((one) =>
+            one.className.split(" ")[0]).join(""), ["was-right", "was-right", "was-right", "was-missed", "was-right"].slice(0, place + 1).join(""));
+        await used.clicked("next question");
+    }
+    equal("what was missed is asked again", on(used), "question");
+    await used.clicked(best(questions[3].roll));
+    used.window.pass(1000);
+    await used.clicked("next question");
+    equal("the review", [on(used), there(used), used.document.querySelectorAll(".reviewed li").length],
+        ["review", "coach steering review printed tools foot", 10]);
+    const rows = [...used.document.querySelectorAll(".reviewed li")];
+    const cells = (row) => [...row.querySelectorAll("dd")].map((node) => node.textContent).join(" | ");
+    const [high, low] = questions[3].roll;
+    equal("its rows", [cells(rows[3]), rows[3].className, rows[2].className],
+        [`${high}/1 ${low}/2 | ${high}/off ${low}/0 | \u22120.056`, "lost", "good"]);
+    equal("the dearest is open, with why", [used.document.querySelectorAll(".reviewed .compared").length,
+        rows[3].querySelectorAll(".compared figure, .signs").length], [2, 5]);
+    equal("the lesson that fits, where the page has it", used.find("fitting lesson"), null);
+    await used.clicked("open 3");
+    equal("and closes", [used.document.querySelectorAll(".reviewed .compared").length,
+        used.find("open 3").getAttribute("aria-expanded")], [0, "false"]);
+    equal("one button is loud", [...used.document.querySelectorAll(".first")].map((one) => one.textContent), ["Done"]);
+    used.window.pass(1000);
+    used.window.go(-1);
+    await used.worker.answerAll();
+    equal("Back to the last question", [on(used), used.session.state.place], ["verdict", 10]);
+    used.window.go(1);
+    await used.worker.answerAll();
+    equal("and on to the review", on(used), "review");
+    await used.clicked("finish");
+    equal("home", [on(used), used.focus(), told(used).startsWith("Today\u2019s ten are done.")], ["home", "today", true]);
+    used.window.pass(1000);
+    equal("its address", used.window.location.hash, "#home");
+    used.window.go(-1);
+    await used.worker.answerAll();
+    equal("Back to the review", on(used), "review");
+    await used.go("#teacher");
+    equal("the focus goes on where a screen begins", used.focus(), "teaching");
+
+    part = "lessons, their drills and marks";
+    const path = await Used.open("", { lessons });
+    equal("no mark", [path.find("mark 1"), path.find("drill 1").getAttribute("aria-label")], [null, "Drill: One"]);
+    path.window.type(path.find("lesson 1").getAttribute("href"));
+    await path.worker.answerAll();
+    equal("not read yet", path.session.state.memory.lessons, []);
+    await path.clicked("answer");
+    equal("read", [path.session.state.memory.lessons, path.window.kept.get("bearoff memory").endsWith("\nlesson 1 0 0")],
+        [[[1, 0, 0]], true]);
+    await path.clicked("end training");
+    equal("its mark", path.text("mark 1"), "read");
+    await path.clicked("drill 1");
+    const { drill } = path.session.state;
+    equal("its drill", [drill.theme, drill.ask, lessonOfDrill(drill)], ["all", "wastage", 1]);
+    for (let place = 0; place < 20; place += 1) {
+        path.find("estimate").value = "999";
+        await path.clicked("tell");
+        await path.clicked("next question");
+    }
+    const right = path.session.state.estimates.filter((one) => !isFar(one)).length;
+    await path.go("#home");
+    equal("how much was right stays", [path.text("mark 1"), (await Used.open("", { lessons, before: (window) => {
+        window.kept = path.window.kept;
+    } })).text("mark 1")], [`${right} of 20`, `${right} of 20`]);
+    const ROOM_LESSONS = ROOMS.flatMap((room) => room.lessons.map(({ number }) => number));
+    equal("each lesson is in one room", [...ROOM_LESSONS].sort((one, other) => one - other),
+        Array.from({ length: 17 }, (_, place) => place + 1));
+    equal("each drill is of one lesson", ROOM_LESSONS.map((number) => lessonOfDrill(drillOfLesson(number, 7))),
+        ROOM_LESSONS);
+    const fits = (made, wanted) => fittingLesson({ play: { to: made }, best: { to: wanted } });
+    equal("the lesson that fits", [fits([1, 1, 0, 0, 0, 0], [2, 0, 0, 0, 0, 0]), fits([2, 0, 0, 1, 0, 0], [2, 1, 0, 1, 0, 0]),
+        fits([2, 1, 0, 1, 0, 0], [2, 0, 0, 1, 0, 0]), fits([2, 0, 0, 1, 0, 1], [1, 1, 1, 1, 0, 0]),
+        fits([1, 1, 1, 1, 0, 0], [2, 1, 1, 1, 0, 0].map((count, place) => count - (place === 3 ? 1 : 0)))],
+    [10, 15, 3, 2, 9]);
+}
+
+// A match from its text or its file to the first of its misses that comes back, and a class's drill.
+async function gamesAndClasses() {
+    part = "one's own games";
+    const match = (kind) => readFileSync(new URL(`../../python/tests/matches/short.${kind}`, import.meta.url), "utf8");
+    const used = await Used.open("#games");
+    const give = async (text) => {
+        used.find("match text").value = text;
+        await used.clicked("read match");
+    };
+    equal("at first", [used.find("match text").getAttribute("aria-describedby"), used.document.querySelector(".reviewed")],
+        ["match-why", null]);
+    await give("7 point match\n\nGame 2");
+    equal("a fault", [used.text("match-why"), used.focus(), used.document.querySelector("#match-why").getAttribute("role")],
+        ["No match: line 3: it should be game 1: Game 2", "match text", "alert"]);
+    await give(match("mat"));
+    const rows = () => [...used.document.querySelectorAll("#games .reviewed li")];
+    const { turns, rows: graded } = used.session.state.match;
+    equal("each bearoff play of at most 44 pips", [used.text("match-why"), rows().length,
+        turns.filter(({ points }) => pipsOf(points) > 44).length], ["", graded.filter(Boolean).length,
+        graded.filter((row) => !row).length]);
+    const [first] = turns.filter((_, place) => graded[place]);
+    const row = graded.find(Boolean);
+    const pips = Number(row.play.exact.split("/")[0]) * 49 / 6 / 18;
+    equal("what one lost, in rolls and in pips", [...rows()[0].querySelectorAll("dd")].map((node) => node.textContent).slice(0, 2)
+        .concat(rows()[0].querySelector(".which").textContent), [row.play.text, row.best.text, `1, ${first.move}`]);
+    equal("and how much", row.play.isBest || rows()[0].textContent.includes(`${pips.toFixed(3)} pips`), true);
+    const totals = [...used.document.querySelectorAll("#games tbody tr")].map((line) =>
+        [...line.children].slice(1, 4).map((cell) => Number(cell.textContent)));
+    equal("of both players", totals.map(([plays]) => plays).reduce((sum, plays) => sum + plays), rows().length);
+    const asked = [0, 1].find((player) => used.find(`ask ${player}`));
+    const misses = graded.flatMap((one, place) => (one && turns[place].player === asked && one.play.loss > 0n
+        ? [[turns[place].points, Number(one.play.loss)]] : []));
+    await used.clicked(`ask ${asked}`);
+    await used.clicked(`ask ${asked}`);
+    equal("its misses come back, each once", [used.session.state.memory.cards.map(({ points, lost }) => [points, lost]),
+        used.text("games").includes(`${misses.length} questions come back from today on.`)], [misses, true]);
+    await used.go("#home");
+    equal("from today on", used.find("today").textContent.startsWith(`Begin ${misses.length} again`), true);
+    await used.clicked("today");
+    const dearest = misses.reduce((most, one) => (one[1] > most[1] ? one : most));
+    equal("the dearest first", used.board, dearest[0]);
+    await used.go("#games");
+    equal("Back to the games", rows().length > 0, true);
+    await used.go("#at=1,0,0,0,0,0");
+    tell(used.document, "drop", { dataTransfer: { files: [Object.assign(new Blob([Buffer.from(match("sgf")
+        .replace("PW[", "PW[J\u00fc"), "latin1")]), { name: "x.SGF" })] } });
+    await settled();
+    await settled();
+    await used.worker.answerAll();
+    equal("a file that is dropped, of an older code", [modeOf(used.session.state).screen, rows().length > 0,
+        used.session.state.match.names[0].startsWith("J\u00fc")], ["games", true, true]);
+
+    part = "a class's drill";
+    const room = await Used.open("#teacher");
+    const write = async (text, key, ask = "play") => {
+        room.find("positions").value = text;
+        room.find("asked").value = ask;
+        await room.clicked(key);
+    };
+    for (const [text, why] of [["1,1,0,0,0,0 21\n\nx", "Line 3: A count is a whole number; commas or spaces stand between the six."],
+        ["1,1,0,0,0,0", "Line 1: A play is asked, so a roll stands behind the position, as in 2,2,2,2,2,2 31."],
+        ["0,0,0,0,0,0 21", "Line 1: There is no checker."],
+        [Array(61).fill("1,1,0,0,0,0 21").join("\n"), "Line 61: A drill has at most 60 positions."]]) {
+        await write(text, "sheet");
+        equal(`refused, ${text.slice(0, 20)}`, [room.text("positions-why"), room.focus(), room.find("print sheet")],
+            [why, "positions", null]);
+    }
+    const XGID = "XGID=-ABC--D------------a-b--c-:0:0:-1:12:0:0:0:0:10";
+    await write(`1,1,0,0,0,0 21\r\n\n2 2 2 2 2 2 3-1\n${XGID}\n${XGID} 61`, "sheet");
+    equal("positions, one a line", room.session.state.sheet.drill.list.map(({ points, roll }) => `${points} ${roll.join("")}`),
+        ["1,1,0,0,0,0 21", "2,2,2,2,2,2 31", ...["21", "61"].map((roll) => `${readTyped(XGID).points} ${roll}`)]);
+    const key = [...room.document.querySelectorAll(".key li")].map((node) => node.textContent.match(/best of.*/)[0]);
+    equal("the key without playing", key, room.session.state.sheet.key);
+    const printed = room.at("printed");
+    equal("on paper", [printed.querySelectorAll(".drill-printed .small").length, printed.querySelector(".name-line").textContent,
+        [...printed.querySelectorAll(".answers-printed li")].map((node) => node.textContent)], [4, "Name", key]);
+    room.click("print sheet");
+    equal("printed", room.window.printed, 1);
+    await write("1,1,0,0,0,0\n2,2,2,2,2,2", "copy class", "effective");
+    const link = room.window.copied.replace(/^[^#]*/, "");
+    equal("the class link", [link, readLink(link).faults], ["#list=1,1,0,0,0,0.2,2,2,2,2,2&ask=effective", []]);
+    const pupil = await Used.open(link);
+    equal("asks everybody the same", [pupil.session.state.questions.length, pupil.board,
+        pupil.text("coach").includes("Positions of a class")], [2, [1, 1, 0, 0, 0, 0], true]);
+    await write("", "open class");
+    equal("without positions, of the theme", [room.session.state.drill.list, room.session.state.questions.length],
+        [undefined, 20]);
+    equal("what a list can't be", readLink("#list=1,1,0,0,0,0&ask=play").faults.length, 1);
+}
+
 // What a student did stays on the device, and today's ten are of it.
 const losing = ([high, low]) => `play ${high}/1 ${low}/2`;
 const best = ([high, low]) => `play ${high}/off ${low}/0`;
 
+const BEGINNING = "Each question shows a few checkers and two dice: move them so that all are off the board soonest.";
+
+const told = (used) => used.document.querySelector(".daily-told").textContent;
+
 async function student() {
+    // the rating of what is kept, with ten plays at random before the first, of a tenth of a roll each
+    const ratedBy = (text) => {
+        const [lost, random, plays] = text.match(/rating (.*)/)[1].split(" ").map(Number);
+        const rating = Math.round((100 * (random - lost)) / (random + 1e6 * 0.98 ** plays));
+        return rating < 0 ? `\u2212${-rating}` : rating;
+    };
     const kept = (used) => used.window.kept.get("bearoff memory");
-    const told = (used) => used.document.querySelector(".daily-told").textContent;
     const day = 20784; // that of the clock of these pages
     const later = (used, days) => ({ before: (window) => {
         window.kept = used.window.kept;
@@ -2345,24 +2575,23 @@ async function student() {
 
     part = "the first day";
     let used = await Used.open();
-    equal("the panel", [used.at("today").hidden, told(used), used.find("today").textContent,
-            used.at("training").querySelector(".student")],
-        [false, "Ten plays, the same for all who begin today. What you miss comes back tomorrow.", "Begin ten new",
-            null]);
+    equal("the panel", [used.at("today").hidden, told(used), used.find("today").textContent],
+        [false, `${BEGINNING} Ten questions, the first ones easy, some three minutes. What you miss comes back tomorrow.`,
+            "Begin ten new"]);
     equal("what stays where", [used.at("today")
             .textContent.includes("What you answer stays on this device; nothing of it is sent."),
         used.window.kept.size, used.at("today").querySelector(".days")], [true, 0, null]);
     await used.clicked("today");
     const { drill, questions } = used.session.state;
     equal("today's ten", [drill, questions.length, used.focus(), used.at("today").hidden],
-        [{ theme: "low", seed: day, ask: "play", level: "mixed", due: [] }, 10, "coach", true]);
+        [{ theme: "all", seed: day, ask: "play", level: "first", due: [] }, 10, "coach", true]);
     equal("its link", [readLink(used.window.location.hash).drill, used.document.title],
         [drill, "Question 1 of 10: Today\u2019s ten \u2013 Bearing off"]);
     equal("what is said of it", ["Today\u2019s ten", "Question 1 of 10.",
-            "Ten that are new: Low stacks."].filter((text) => !used.text("coach").includes(text)), []);
+            "Ten that are new: All positions."].filter((text) => !used.text("coach").includes(text)), []);
     await used.clicked(losing(questions[0].roll));
     equal("one is missed", kept(used),
-        `bearoff memory 3\nlearnt 0\nsizes 0 1 0\nrating 56000 0 1\ntheme low 1 1 56\nday ${day} 1 1 0\ncard ${questions[0].points} ${questions[0].roll.join("")} low 0 ${day + 1} 56`);
+        `bearoff memory 4\nlearnt 0\nsizes 0 1 0\nrating 56000 19000 1\ntheme all 1 1 56\nday ${day} 1 1 0\ncard ${questions[0].points} ${questions[0].roll.join("")} all 0 ${day + 1} 56`);
     await used.clicked("next question");
     for (const { roll } of questions.slice(1)) {
         await used.clicked(roll === questions[1].roll ? losing(roll) : best(roll));
@@ -2382,7 +2611,7 @@ async function student() {
     equal("after ten", [told(used), used.find("today").textContent],
         [`Today\u2019s ten are done. ${many(missed.length)}`, "Ten more ten new"]);
     equal("facts", [...used.at("today").querySelectorAll("dd")].map((node) => node.textContent),
-        ["1 day", "0 today", `0.0${Math.round(5.6 * missed.length)} rolls`]);
+        ["1 day", "0 today", `0.0${Math.round(5.6 * missed.length)} rolls`, `${ratedBy(kept(used))} of 100`]);
     equal("the last days", used.at("today").querySelector(".days").getAttribute("aria-label"),
         `Right on each of the last fourteen days: ${"none, ".repeat(13)}${10 - missed.length} of 10`);
     await used.clicked("all that is kept");
@@ -2428,38 +2657,29 @@ async function student() {
         drilled.find("today").textContent], [true, "Ten more 2 again, 8 new"]);
 
     part = "a rating";
-    // the play that loses leaves the fewest checkers, so it is the natural one
-    const tempting = (points) => rollsFrom(points).map(({ dice, plays }) => ({
-        dice, plays: plays.map((one, place) => ({ ...one, to: [2 - place, ...points.slice(1)] })),
-    }));
-    const rated = await Used.open("", { plays: tempting });
+    const rated = await Used.open("");
     await rated.clicked("today");
     const rating = () => kept(rated).split("\n")[3];
     const [first, second] = rated.session.state.questions;
     await rated.clicked(best(first.roll));
-    equal("the natural play loses", rating(), "rating 0 56000 1");
+    equal("a play at random loses the mean of all", rating(), "rating 0 19000 1");
     await rated.clicked("next question");
     await rated.clicked(losing(second.roll));
-    equal("it is played", rating(), "rating 56000 110880 2");
-    // of two natural plays the one counts that loses less
-    const either = await Used.open("", { plays: (points) => tempting(points).map(({ dice, plays }) => ({
-        dice, plays: plays.map((one, place) => ({ ...one, to: [place === 0 ? 1 : 0, ...points.slice(1)] })),
-    })) });
-    await either.clicked("today");
-    await either.clicked(losing(either.session.state.questions[0].roll));
-    equal("one is right", kept(either).split("\n")[3], "rating 56000 0 1");
+    equal("one that loses", rating(), "rating 56000 37620 2");
     const facts = async (...lines) => {
         const shown = await Used.open("", { before: (window) => {
             window.kept = new Map([["bearoff memory", ["bearoff memory 3", ...lines, `day ${day} 20 9 1`].join("\n")]]);
         } });
         return [...shown.at("today").querySelectorAll("dt, dd")].map((node) => node.textContent).slice(6).join(" ");
     };
-    equal("shown once it is known", [await facts("rating 300000 400000 20"), await facts("rating 300000 400000 19"),
-            await facts("rating 0 0 20")], ["Rating 25 of 100", "", ""]);
+    equal("it begins where a beginner stands, who plays at random, and its sign is a minus",
+        [await facts("rating 0 0 0"), await facts("rating 300000 400000 200"), await facts("rating 0 400000 200"),
+            await facts("rating 500000 400000 200"), await facts("rating 5000000 400000 9")],
+        ["Rating 0 of 100", "Rating 24 of 100", "Rating 96 of 100", "Rating \u221224 of 100", "Rating \u2212100 of 100"]);
     await rated.clicked("end training");
     await rated.clicked("all that is kept");
     equal("told", rated.at("today")
-            .textContent.includes("The rating looks at about the last fifty plays: 100 where nothing was lost, 0 where as much was lost as by the play that bears off the most checkers and then fills the most points."), true);
+            .textContent.includes("The rating begins at 0, and looks at about the last fifty plays: 100 where nothing was lost, 0 where as much was lost as by plays at random."), true);
 
     part = "loaded anew";
     const anew = await Used.open(used.window.entries[1], { before: (window) => {
@@ -2470,7 +2690,7 @@ async function student() {
     part = "the day after";
     const next = await Used.open("", later(used, 1));
     equal("what comes back", [told(next), next.find("today").textContent],
-        [`${missed.length} that you missed come${missed.length === 1 ? "s" : ""} back, ${10 - missed.length} are new: Gaps.`, `Begin ${missed.length} again, ${10 - missed.length} new`]);
+        [`${missed.length} that you missed come${missed.length === 1 ? "s" : ""} back, ${10 - missed.length} are new: Gaps, easy. Some three minutes.`, `Begin ${missed.length} again, ${10 - missed.length} new`]);
     await next.clicked("today");
     equal("they are first", next.session.state.questions.slice(0,
             missed.length).map(({ points, roll }) => [points, roll]), missed.map(({ points, roll }) => [points, roll]));
@@ -2479,9 +2699,9 @@ async function student() {
     await play(next, () => false);
     equal("right, they come after three days",
         kept(next).split("\n").filter((line) => line.startsWith("card"))
-        .map((line) => line.split(" ").slice(3).join(" ")), missed.map(() => `low 1 ${day + 4} 56`));
+        .map((line) => line.split(" ").slice(3).join(" ")), missed.map(() => `all 1 ${day + 4} 56`));
     equal("themes of their own", kept(next).split("\n").filter((line) => line.startsWith("theme")),
-        [`theme low ${10 + missed.length} ${missed.length} ${56 * missed.length}`,
+        [`theme all ${10 + missed.length} ${missed.length} ${56 * missed.length}`,
         `theme gaps ${10 - missed.length} 0 0`]);
     equal("nothing comes tomorrow", next.text("coach").includes("Nothing comes back tomorrow."), true);
     await next.clicked("end training");
@@ -2508,7 +2728,7 @@ async function student() {
     equal("not copied", next.at("today")
             .textContent.includes("The browser lets this page copy nothing: copy the text from the field."), true);
     await next.clicked("forget");
-    equal("all is forgotten", [next.window.kept.size, told(next).startsWith("Ten plays, the same for all"),
+    equal("all is forgotten", [next.window.kept.size, told(next).startsWith(BEGINNING),
             next.at("today").textContent.includes("All is forgotten."), next.focus()], [0, true, true, "forget"]);
     next.find("memory text").value = `${text}\nday x`;
     await next.clicked("take memory");
@@ -2529,7 +2749,7 @@ async function student() {
     next.window.listeners.get("storage")({ key: "other" });
     equal("another key is none of it", told(next).startsWith(`${missed.length} that`), true);
     next.window.listeners.get("storage")({ key: "bearoff memory" });
-    equal("one hears of the other", told(next).startsWith("Ten plays, the same for all"), true);
+    equal("one hears of the other", told(next).startsWith(BEGINNING), true);
 
     part = "without a store";
     used = await Used.open("", { before: (window) => { delete window.localStorage; } });
@@ -2545,12 +2765,12 @@ async function student() {
         window.kept = new Map([["bearoff memory", "bearoff memory 9"]]);
     } });
     equal("what is of a newer page", used.at("today")
-            .textContent.includes("What is kept here can't be read, and stays as it is. It is of version 9, and this page knows 3."), true);
+            .textContent.includes("What is kept here can't be read, and stays as it is. It is of version 9, and this page knows 4."), true);
 
     part = "what counts";
     used = await Used.open("#at=1,0,0,1,0,0&guess=1&roll=31");
-    equal("a link goes where it says", [used.at("today").hidden, used.at("today").childNodes.length,
-            used.at("training").querySelector(".student") !== null, used.board], [true, 0, true, [1, 0, 0, 1, 0, 0]]);
+    equal("a link goes where it says", [used.document.querySelector(".student"), used.board],
+        [null, [1, 0, 0, 1, 0, 0]]);
     await used.clicked(losing([3, 1]));
     equal("no guess on the free board", used.window.kept.size, 0);
     used.window.type(`#${new URLSearchParams({ text: "lesson: One\nstep: 0,0,0,1,0,1\nroll: 31\nask: Which?" })}`);
@@ -2565,7 +2785,7 @@ async function student() {
         ["effective", 1, 1, true, `card ${used.session.state.points} - effective 0 ${day + 1} ${lost}`]);
     await used.clicked("end training");
     await used.clicked("all that is kept");
-    equal("in pips", /EPC 1 1 [0-9.]+ pips/.test(textOf(view(used.session.state, {}).trees.training).replace(/\s+/g,
+    equal("in pips", /EPC 1 1 [0-9.]+ pips/.test(textOf(view(used.session.state, {}).trees.today).replace(/\s+/g,
             " ")), true);
     used.window.type("#drill=gaps&seed=7&ask=play");
     await used.worker.answerAll(44);
@@ -2671,10 +2891,10 @@ async function estimating() {
             used.find("answer").getAttribute("class"), used.text("coach").includes("43 pips.")], [true, null, false]);
     used.find("estimate").value = "42";
     await used.clicked("tell");
-    equal("how far it was off", [used.at("steering").querySelector(".verdict").textContent,
+    equal("how far it was off", [used.at("coach").querySelector(".verdict").textContent,
             used.at("numbers").querySelector(".verdict"), used.figures[0]],
         ["You said 42.000: 1.000 pips off.", null, "43"]);
-    equal("a pip count that is wrong isn't near", used.at("steering").querySelector(".verdict").getAttribute("class"),
+    equal("a pip count that is wrong isn't near", used.at("coach").querySelector(".verdict").getAttribute("class"),
         "verdict");
     equal("the answer opens, and one goes on",
         [used.text("coach").includes("43 pips."), used.find("answer"), used.focus(),
@@ -2717,7 +2937,7 @@ async function estimating() {
     equal("measured once", used.worker.asked.length, 0);
     await used.clicked("answer");
     equal("the answer without an estimate", [used.find("estimate"), used.figures[0], used.text("coach").includes("29."),
-            used.at("steering").querySelector(".verdict")], [null, "7", true, null]);
+            used.at("coach").querySelector(".verdict")], [null, "7", true, null]);
     await used.clicked("next step");
     equal("a step without a rule has no table", [worth().hidden, worth().childNodes.length, used.figures[0]],
         [true, 0, "1"]);
@@ -2772,7 +2992,7 @@ async function filled() {
     const plain = await Used.open(`#${new URLSearchParams({ text: "lesson: x\nstep: 1,0,0,0,0,0\ntext: {nothing}" })}`);
     equal("a lesson without them asks for none",
         [plain.session.state.filled, plain.text("coach").includes("{nothing}")], [null, true]);
-    await plain.clicked("end training");
+    await plain.go("#at=1,0,0,0,0,0");
     await plain.clicked("draft begin");
     equal("the editor names them", ["{pips}", "{mean}", "{EPC}", "{wastage}",
             "{best}"].filter((word) => !plain.text("draft").includes(word)), []);
@@ -2796,7 +3016,9 @@ async function results() {
     used.find("result name").value = "  Ada\n  L. ";
     await used.clicked("copy result");
     await settled();
-    const text = `bearoff result 1\ndrill all 7 play hard\nname Ada L.\nlost 56 56 - 56${" 0".repeat(16)}`;
+    const played = questions.map(({ roll: [high, low] }, place) => (place === 2 ? "-"
+        : place < 4 ? `${high}/1 ${low}/2` : `${high}/off ${low}/0`)).join(", ");
+    const text = `bearoff result 1\ndrill all 7 play hard\nname Ada L.\nlost 56 56 - 56${" 0".repeat(16)}\nplayed ${played}`;
     equal("its text", [used.window.copied, used.text("coach").includes("The result is copied: send it back.")],
         [text, true]);
     used.window.navigator.clipboard.writeText = async () => { throw new Error("denied"); };
@@ -2826,44 +3048,55 @@ async function results() {
     await told.clicked("copy result");
     await settled();
     equal("of estimates", told.window.copied,
-        `bearoff result 1\ndrill ace 7 pips any\nname Cy\nlost 0 1000 2000${" -".repeat(12)}`);
+        `bearoff result 1\ndrill ace 7 pips any\nname Cy\nlost 0 1000 2000${" -".repeat(12)}\nplayed ${[0, 1, 2].map((place) =>
+            `${told.session.state.questions[place].points[0] + place}.000`).join(", ")}${", -".repeat(12)}`);
 
     part = "a class";
     const one = (name, lost, drill = "all 7 play hard") =>
             `bearoff result 1\ndrill ${drill}\nname ${name}\nlost ${lost}`;
+    await told.go("#teacher");
     const field = () => told.find("results");
     const give = async (words) => {
         field().value = words;
         tell(field(), "change");
         await told.worker.answerAll();
     };
-    const rows = () => [...told.document.querySelectorAll(".pupils tbody tr")].map((row) =>
+    const rows = () => [...told.document.querySelectorAll(".pupils:not(.questions) tbody tr")].map((row) =>
             [...row.childNodes].map((node) => node.textContent).join(" "));
     equal("nothing yet", [rows(), told.text("results-why"), told.at("results-why").getAttribute("role")],
         [[], "", "alert"]);
     await give(`Dear teacher,\n\n${one("Ada L.", "56 0 - 0")}\n\nBye\n${one("Bo", "0 0 20 1")}\r\n${one("<i>Cy</i>", "0 70 20 7")}`);
     equal("who answered most and lost least first", rows(),
         ["Bo 4 2 0.021", "<i>Cy</i> 4 3 0.097", "Ada L. 3 1 0.056"]);
-    const missed = () => [...told.at("training").querySelectorAll(".class a")].map((node) => [node.textContent,
-            readLink(node.getAttribute("href")).place, readLink(node.getAttribute("href")).drill.level]);
-    equal("which questions most have missed",
-        [missed(), told.at("training").querySelector(".class")
-            .textContent.includes("Missed most: question 3 by 2 of 3, question 4 by 2 of 3, question 1 by 1 of 3, question 2 by 1 of 3.")],
-        [[["question 3", 2, "hard"], ["question 4", 3, "hard"], ["question 1", 0, "hard"], ["question 2", 1, "hard"]],
-            true]);
-    equal("of which drill", told.at("training").querySelector(".pupils caption").textContent,
+    const missed = () => [...told.at("teaching").querySelectorAll(".class a")].map((node) => [
+        [...node.parentNode.parentNode.children].map((cell) => cell.textContent).join(" "),
+        readLink(node.getAttribute("href")).place, readLink(node.getAttribute("href")).drill.level]);
+    equal("which questions most have missed", missed(), [["Question 3 2 of 3 \u2013", 2, "hard"],
+        ["Question 4 2 of 3 \u2013", 3, "hard"], ["Question 1 1 of 3 \u2013", 0, "hard"],
+        ["Question 2 1 of 3 \u2013", 1, "hard"]]);
+    const plays = (name, ...all) => one(name, all.map((text) => (text === "6/off" ? "0" : "56")).join(" ")).concat(
+        `\nplayed ${all.join(", ")}`);
+    await give([plays("Ada", "6/off", "5/1 4/2"), plays("Bo", "6/off", "6/off"), plays("Cy", "6/off", "5/1 4/2")].join("\n"));
+    equal("what was played by whom", missed().map(([text]) => text),
+        ["Question 2 2 of 3 6/off (best): Bo; 5/1 4/2 (\u22120.056): Ada, Cy", "Question 1 0 of 3 6/off (best): Ada, Bo, Cy"]);
+    equal("of a list too", [readResults(`bearoff result 1\ndrill all 1 play any\nlist 1,1,0,0,0,0,21\nname A\nlost 0`).results[0]
+        .drill, readResults(plays("A", "6/7")).fault, readResults(`${plays("A", "6/off")}, 6/off`).fault],
+    [{ theme: "all", seed: 1, ask: "play", list: [{ points: [1, 1, 0, 0, 0, 0], roll: [2, 1] }] },
+        "Line 5 can't be read.", "Result 1 is not whole."]);
+    await give(one("Ada", "56 0"));
+    equal("of which drill", told.at("teaching").querySelector(".pupils caption").textContent,
         "Drill: All positions, Play, hard");
     await give(one("Ada", "999 1000 0", "few 3 effective any"));
     equal("estimates that are a pip off are missed",
         [rows(), missed().map(([name]) => name),
-        told.at("training").querySelector(".pupils").textContent.includes("lost, in pips")],
-        [["Ada 3 1 1.999"], ["question 2"], true]);
+        told.at("teaching").querySelector(".pupils").textContent.includes("lost, in pips")],
+        [["Ada 3 1 1.999"], ["Question 2 1 of 1 \u2013"], true]);
     await give(one("Ada", "0 0"));
     equal("nothing missed", [rows(), missed()], [["Ada 2 0 0.000"], []]);
     for (const [words, why] of [
         ["hello", "There is no result in it."], [one("", "0"), "Line 3 can't be read."],
             [one("A", "x"), "Line 4 can't be read."], [one("A", "0 -1"), "Line 4 can't be read."],
-        [one("A", "0 ".repeat(21).trim()), "Line 4 can't be read."],
+        [one("A", "0 ".repeat(61).trim()), "Line 4 can't be read."],
             [one("A", "0", "all 7 play harder"), "Line 2 can't be read."],
             [one("A", "0", "nowhere 7 play any"), "Line 2 can't be read."],
         [one("A", "0", "all 7 play any more"), "Line 2 can't be read."],
@@ -2921,7 +3154,7 @@ const PARTS = [
     ["guesses", guesses],
     ["why a play loses", reasons],
     ["a guess on the board", guessed],
-    ["keeping", keeping],
+    ["keeping", keeping], ["screens", screens], ["games and classes", gamesAndClasses],
     ["a student's days", student],
     ["what comes back otherwise", comeBack],
     ["estimating", estimating],

@@ -5,12 +5,12 @@
 import assert from "node:assert/strict";
 import { test } from "node:test";
 import { readDraft, readPicks, writeDraft, writePicks } from "../../web/kept.js";
-import { LONGEST_CAPTION, MOST_KEPT, readLink, readTyped, START, writeLink } from "../../web/link.js";
+import { LONGEST_CAPTION, MOST_KEPT, PAGES, readLink, readTyped, START, writeLink } from "../../web/link.js";
 import {
     answered, BOXES, DAILY, dayOf, EMPTY, MOST_CARDS, MOST_DAYS, readMemory, Store, todays, todaysEstimates, written,
 } from "../../web/memory.js";
-import { ASKED, drillOf, ESTIMATED, MOST_LOST, QUESTIONS, readDue, TEN, writeDue } from "../../web/questions.js";
-import { readResults, writeResult } from "../../web/results.js";
+import { ASKED, drillOf, ESTIMATED, MOST_LISTED, MOST_LOST, QUESTIONS, readDue, TEN, writeDue } from "../../web/questions.js";
+import { classOf, readResults, writeResult } from "../../web/results.js";
 import { ROLLS } from "../../web/rolls.js";
 import { readWeight } from "../../web/rules.js";
 import { begin, picksOf, withPicks } from "../../web/state.js";
@@ -18,7 +18,7 @@ import { beginDraft, draftText, titleDraft, writeDraft as typeDraft } from "../.
 import { keep, setCaption } from "../../web/state/shelf.js";
 import { student } from "../../web/student.js";
 import { decimal } from "../../web/texts.js";
-import { levelsOf, THEMES } from "../../web/themes.js";
+import { LADDER, ladderOf, levelsOf, THEMES } from "../../web/themes.js";
 import { LONGEST_TEXT, readEstimate, readLessons, writeLesson } from "../../web/trainer.js";
 
 const SEED = Number(process.env.SEED) || 1 + (Date.now() % 1e9);
@@ -71,6 +71,11 @@ function drillFrom(draw, hasDue = draw.is()) {
         points: draw.points(1), roll: ask === "play" ? draw.one(ROLLS) : null,
         ...(ask === "play" && draw.is() ? { theme: draw.one(played) } : {}),
     })) : null;
+    if (!hasDue && draw.below(4) === 0) {
+        const list = Array.from({ length: 1 + draw.below(MOST_LISTED) }, () =>
+            ({ points: draw.points(1), roll: ask === "play" ? draw.one(ROLLS) : null }));
+        return drillOf({ ask, list });
+    }
     const level = draw.one(levelsOf({ theme, ask })).name;
     return drillOf({ theme, seed: draw.number(1, 999999999), ask, level, due });
 }
@@ -86,8 +91,8 @@ function answerFrom(draw, { cards }) {
     return {
         points, roll, theme,
         lost: draw.one([0, draw.number(0, 2000), draw.number(MOST_LOST - 1, 2 * MOST_LOST)]),
-        natural: draw.number(0, MOST_LOST),
-        isMissed: draw.is(), isLast: draw.is(),
+        random: draw.number(0, MOST_LOST), level: draw.one(LADDER),
+        isMissed: draw.is(), ten: draw.number(0, 900000),
     };
 }
 
@@ -99,9 +104,15 @@ function memoryText(draw) {
     };
     const once = (lines) => [...new Map(lines).values()];
     return [
-        "bearoff memory 3", `learnt ${draw.number(0, 9999999)}`,
+        "bearoff memory 4", `learnt ${draw.number(0, 9999999)}`,
         `sizes ${[1, 2, 3].map(() => draw.number(0, 9999999)).join(" ")}`,
         `rating ${draw.number(0, 999999999)} ${draw.number(0, 999999999)} ${draw.number(0, 9999999)}`,
+        ...once(draw.many(9, () => draw.number(1, 99)).map((lesson) => {
+            const asked = draw.number(0, 99);
+            return [lesson, `lesson ${lesson} ${draw.number(0, asked)} ${asked}`];
+        })),
+        ...once(draw.many(9, () => draw.one(played)).map((name) =>
+            [name, `level ${name} ${draw.one(ladderOf(name))} ${draw.one(["-", "1", "0".repeat(20)])}`])),
         ...once(draw.many(14, () => draw.one([...THEMES.map(({ name }) => name), ...ESTIMATED]))
             .map((name) => [name, `theme ${name} ${tally(999999999)}`])),
         ...once(draw.many(draw.one([9, MOST_DAYS + 9]), () => draw.number(0, 999999))
@@ -171,10 +182,11 @@ drawn("the results of a class", (draw) => {
     const [drill, count] = [drillFrom(draw, false), 1 + draw.below(QUESTIONS)];
     const pupils = Array.from({ length: 1 + draw.below(5) }, () => ({
         name: `${draw.text()}n${draw.text()}`,
+        played: Array.from({ length: count }, () => draw.one([null, "6/off", "6/2 5/off(2)", "\u221210.500", "51.000"])),
         lost: Array.from({ length: count }, () =>
             draw.one([null, 0, draw.number(0, 3000), draw.number(0, 3 * MOST_LOST)])),
     }));
-    const texts = pupils.map(({ name, lost }) => writeResult(drill, name, lost));
+    const texts = pupils.map(({ name, lost, played: plays }) => writeResult(drill, name, lost, plays));
     const { results, fault } = readResults(texts.join(draw.one(["\n", "\n\nDear teacher,\n", "\r\n"])));
     assert.equal(fault, "");
     results.forEach((result, place) => {
@@ -182,8 +194,14 @@ drawn("the results of a class", (draw) => {
         assert.deepEqual(result.lost, pupils[place].lost.map((lost) =>
             (lost === null ? null : Math.min(lost, MOST_LOST))));
         // the same again
-        assert.equal(writeResult(result.drill, result.name, result.lost), texts[place]);
+        assert.equal(writeResult(result.drill, result.name, result.lost,
+            result.played.map((one) => (one === "-" ? null : one))), texts[place]);
     });
+    // of each question who played what
+    for (const { place, played: plays } of classOf(results).questions) {
+        assert.equal(plays.reduce((sum, { names }) => sum + names.length, 0),
+            pupils.filter(({ played: [...all] }) => all[place] !== null).length);
+    }
 });
 
 drawn("a link", (draw) => {
@@ -194,7 +212,7 @@ drawn("a link", (draw) => {
     const roll = draw.is() ? draw.one(ROLLS) : null;
     const drill = draw.is() ? drillFrom(draw) : null;
     const state = {
-        points: draw.points(), kept, title: readLink(`#${new URLSearchParams({ t: draw.text() })}`).title, roll,
+        page: "board", points: draw.points(), kept, title: readLink(`#${new URLSearchParams({ t: draw.text() })}`).title, roll,
         guess: draw.is(), bound: draw.one([44, 90]), isCompact: draw.is(), drill,
         place: drill ? draw.number(0, 98) : 0,
         estimate: draw.one([null, ...ESTIMATED]), lesson, text, step: draw.number(1, 60),
@@ -203,6 +221,9 @@ drawn("a link", (draw) => {
     const { isPlaced, faults, ...back } = readLink(link);
     assert.deepEqual([back, isPlaced, faults], [state, true, []]);
     assert.equal(writeLink(readLink(link)), link);
+    const page = draw.one(PAGES);
+    const there = writeLink({ ...state, page, drill: null, lesson: null, text: "" });
+    assert.deepEqual([there, readLink(there).page, readLink(there).faults], [`#${page}`, page, []]);
     if (drill?.due) assert.deepEqual(readDue(writeDue(drill.due), drill.ask), drill.due);
     assert.ok([state.title, ...kept.map(({ caption }) => caption)].every(({ length }) => length <= LONGEST_CAPTION));
 });

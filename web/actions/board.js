@@ -5,7 +5,7 @@ import {
     undo,
 } from "../state/board.js";
 import { triedAgain } from "../state/database.js";
-import { hasBegun, isTraining, makingOf } from "../state/reads.js";
+import { hasBegun, makingOf, modeOf } from "../state/reads.js";
 
 export function boardActions({
     session, change, document, window, focus, focusOn, onBoard, isWithin,
@@ -48,7 +48,7 @@ export function boardActions({
             const isAsked = makingOf(session.state) !== null;
             change(choosePlay, text);
             if (!isAsked) return;
-            if (isTraining(session.state)) {
+            if (modeOf(session.state).trains) {
                 document.body.scrollIntoView({ block: "start" });
                 focusOn(["next question", "next step", "next lesson", "finish"], "steering");
             } else {
@@ -75,7 +75,7 @@ export function boardActions({
         },
         grab: (event) => dragging.grab(event),
         close() {
-            if (isTraining(session.state)) return;
+            if (modeOf(session.state).trains) return;
             const { roll } = session.state;
             change(chooseRoll, null);
             if (roll) focus(`roll ${roll.join("")}`);

@@ -34,7 +34,7 @@ export function draftActions({ session, change, document, window, focusOn }) {
         },
         closeDraft() {
             change(closeDraft);
-            focusOn(["draft begin"], "train");
+            focusOn(["draft begin"], "more");
         },
         // the lesson that is made, opened, as a link, or as a file; or why it is none yet
         tryDraft: () => withDraft((text) => change(giveLesson, text)),

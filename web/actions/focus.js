@@ -6,9 +6,9 @@ export function focusing(document) {
         // the first of some keys that is there, or else a part of the page
         focusOn(keys, name) {
             const found = keys.map(keyed).find(Boolean);
-            (found || document.getElementById(name)).focus({ preventScroll: true });
+            (found || document.getElementById(name))?.focus({ preventScroll: true });
         },
         onBoard: () => document.querySelector('#board [tabindex="0"].to-play'),
-        isWithin: (name) => document.getElementById(name).contains(document.activeElement),
+        isWithin: (name) => document.getElementById(name)?.contains(document.activeElement),
     };
 }

@@ -1,17 +1,15 @@
 // What is done where one trains: in a lesson, a drill and an estimate, and with a class's results.
 import { writeResult } from "../results.js";
-import { lostInEach } from "../state/reads.js";
+import { drillOfLesson } from "../rooms.js";
+import { lostInEach, playedInEach } from "../state/reads.js";
 import {
-    askNext, chooseDrill, endTraining, giveEstimate, giveLesson, giveResults, goToStep, openAnswer,
-    resetGuesses, setEstimate, setGuess, tellResult, weigh,
+    askNext, beginDrill, chooseDrill, endTraining, giveEstimate, giveLesson, giveResults, goToStep,
+    openAnswer, openMiss, resetGuesses, setEstimate, setGuess, tellResult, weigh,
 } from "../state/training.js";
 
-const MOST_SEED = 999999999;
-
 export function trainingActions({
-    session, change, document, window, focus, focusOn, onBoard, isWithin,
+    session, change, document, window, focus, focusOn, onBoard, isWithin, anySeed,
 }) {
-    const anySeed = () => 1 + Math.floor(Math.random() * MOST_SEED);
     return {
         guess: (isOn) => change(setGuess, isOn),
         answer() {
@@ -40,15 +38,16 @@ export function trainingActions({
         weigh: (place, text) => change(weigh, place, text),
         end() {
             change(endTraining);
-            document.getElementById("train").scrollIntoView({ block: "start" });
-            document.getElementById("train").focus({ preventScroll: true });
+            focusOn([], "today");
         },
         give: (text) => change(giveLesson, text),
+        open: (place) => change(openMiss, place),
         drill() {
             const [theme, ask, level, seed] = ["theme", "asked", "level", "seed"].map((key) =>
                 document.querySelector(`[data-key="${key}"]`).value);
             change(chooseDrill, { theme, ask, level, seed }, anySeed());
         },
+        drillOfLesson: (number) => change(beginDrill, drillOfLesson(number, anySeed())),
         // another drill like the one that is over
         another: () =>
             change(chooseDrill, { level: "any", ...session.state.drill, seed: "" }, anySeed()),
@@ -68,7 +67,7 @@ export function trainingActions({
                 focusOn(["result name"], "coach");
                 return;
             }
-            const text = writeResult(drill, name, lostInEach(session.state));
+            const text = writeResult(drill, name, lostInEach(session.state), playedInEach(session.state));
             const told = await window.navigator.clipboard.writeText(text)
                 .then(() => "The result is copied: send it back.",
                 () => `The browser lets this page copy nothing. The result: ${text}`);

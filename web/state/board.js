@@ -2,8 +2,8 @@
 import { readTyped } from "../link.js";
 import { MOST_CHECKERS } from "../points.js";
 import {
-    byLoss, chosenOf, freeOf, heardPlay, heardPlays, hides, isAgain, keyOf, makingOf, shownPlay,
-    spoken, verdictOf,
+    byLoss, chosenOf, freeOf, heardPlay, heardPlays, keyOf, makingOf, modeOf, shownPlay, spoken,
+    verdictOf,
 } from "./reads.js";
 
 // A digit that follows another one within so many milliseconds is its second.
@@ -75,7 +75,8 @@ export function chooseRoll(state, roll) {
     };
     if (!roll) return next;
     return {
-        ...next, said: hides(next) ? `Which play of ${roll.join("-")} is best?` : heardPlays(next),
+        ...next, said: modeOf(next).hidden.plays ? `Which play of ${roll.join("-")} is best?`
+            : heardPlays(next),
     };
 }
 
@@ -85,11 +86,11 @@ export function choosePlay(state, text) {
     const chosen = chosenOf(state);
     const play = chosen?.plays.find((one) => one.text === text);
     if (!play) return state;
-    if (!hides(state)) return { ...state, shown: text, said: heardPlay(play) };
+    if (!modeOf(state).hidden.plays) return { ...state, shown: text, said: heardPlay(play) };
     const guess = {
         at: keyOf(state.points), roll: state.roll, play, best: byLoss(chosen.plays)[0],
     };
-    const list = isAgain(state) ? "again" : "guesses";
+    const list = modeOf(state).round.guesses;
     const next = {
         ...state, shown: text, steps: [], picked: null, [list]: [...state[list], guess],
     };

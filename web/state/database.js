@@ -1,10 +1,11 @@
 // What is asked of the open database, what its replies change, and databases that come and go.
 import { FIRST, GREATEST, pipsOf } from "../points.js";
+import { BadMatch } from "../matches.js";
 import { mostOf } from "../questions.js";
 import { hasValues } from "../trainer.js";
 import {
-    answerOf, byLoss, isTraining, keyOf, lengthOf, lessonOf, measuredOf, missKey, missOf,
-    questionOf, rollsOf, showsRules, spoken, spokenOfThem, theirAnswer,
+    answerOf, byLoss, keyOf, lengthOf, lessonOf, measuredOf, missKey, missOf, modeOf, questionOf,
+    rollsOf, showsRules, spoken, spokenOfThem, theirAnswer,
 } from "./reads.js";
 import { askNext, errorOf } from "./training.js";
 
@@ -14,11 +15,11 @@ export const firstBound = ({ points }) => (pipsOf(points) > FIRST ? GREATEST : F
 // Whether something on the page needs the whole board: a position, a step of the lesson, the drill,
 // or the link.
 export function needsMore(state) {
-    const { database, drill, kept, theirs } = state;
+    const { database, drill, kept, theirs, match, sheet } = state;
     if (!database || database.bound >= GREATEST) return false;
-    return state.bound === GREATEST || Boolean(drill && database.bound < mostOf(drill))
+    return state.bound === GREATEST || [drill, sheet?.drill].some((one) => one && database.bound < mostOf(one))
         || Boolean(theirs && pipsOf(theirs) > database.bound)
-        || [state, ...kept, ...(lessonOf(state)?.steps || [])]
+        || [state, ...kept, ...(lessonOf(state)?.steps || []), ...(match?.turns || [])]
             .some(({ points }) => pipsOf(points) > database.bound);
 }
 
@@ -50,7 +51,8 @@ export function wanted(state) {
     if (kept) return { kind: "ask", points: kept.points };
     const miss = missOf(state);
     if (miss && state.why?.key !== missKey(miss)) {
-        return { kind: "why", points, roll: miss.roll, to: miss.play.to, key: missKey(miss) };
+        const at = miss.at.split(",").map(Number);
+        return { kind: "why", points: at, roll: miss.roll, to: miss.play.to, key: missKey(miss) };
     }
     const { weights, measures } = state;
     if (showsRules(state) && !(measuredOf(state) && measures.weights === weights)) {
@@ -62,6 +64,11 @@ export function wanted(state) {
         const steps = lesson.steps.map(({ points: at, roll }) => ({ points: at, roll }));
         return { kind: "fill", lesson, steps };
     }
+    const { match, sheet } = state;
+    if (sheet && !sheet.questions && state.database.bound >= mostOf(sheet.drill)) {
+        return { kind: "sheet", sheet, drill: sheet.drill };
+    }
+    if (match && match.database !== state.database) return { kind: "grade", match, turns: match.turns };
     const { drill, questions, picks } = state;
     if (!drill || state.database.bound < mostOf(drill)) return null;
     if (!questions) return { kind: "draw", drill };
@@ -92,6 +99,16 @@ export function received(state, database, question, reply) {
     if (question.kind === "fill") {
         return { ...state, filled: { lesson: question.lesson, database, values: reply } };
     }
+    if (question.kind === "sheet") {
+        return state.sheet === question.sheet
+            ? { ...state, sheet: { ...question.sheet, ...reply } } : state;
+    }
+    if (question.kind === "grade") {
+        const { match } = question;
+        const matchFault = reply.fault ? new BadMatch(...reply.fault).message : "";
+        return state.match !== match ? state
+            : { ...state, matchFault, match: { ...match, rows: reply.rows, database } };
+    }
     if (question.kind === "measure") {
         return { ...state, measures: { ...reply, database, weights: question.weights } };
     }
@@ -105,8 +122,9 @@ export function received(state, database, question, reply) {
         return { ...next, said: [next.said, more].filter(Boolean).join(" ") };
     }
     // what a lesson or a drill asks is heard before the numbers
-    const first = isTraining(state) ? state.said : "";
-    const then = state.roll && isTraining(state) ? "" : spoken(next);
+    const { trains } = modeOf(state);
+    const first = trains ? state.said : "";
+    const then = state.roll && trains ? "" : spoken(next);
     return { ...next, said: [first, then].filter(Boolean).join(" ") };
 }
 

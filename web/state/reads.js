@@ -2,7 +2,7 @@
 // was answered, and what of it is heard. An answer stands under its position and is read for that
 // one alone; so nothing of a former position can be shown.
 import { decimalOf, inPips, inSentence, sumOfFractions } from "../fractions.js";
-import { MOST_KEPT } from "../link.js";
+import { MOST_KEPT, PAGES } from "../link.js";
 import { GREATEST, inWords, MOST_CHECKERS, sumOf } from "../points.js";
 import { FAR, WANTED, writeDue } from "../questions.js";
 import { sameRoll } from "../rolls.js";
@@ -46,21 +46,64 @@ export function missedOf({ drill, questions, guesses, estimates }) {
 // How many questions there are with those that are asked once more.
 export const lengthOf = (state) => (state.questions || []).length + missedOf(state).length;
 
-// Whether a question that was missed is asked once more.
-export const isAgain = (state) =>
-    state.questions !== null && state.place >= state.questions.length
-        && state.place < lengthOf(state);
-
 // The question of the drill that is asked, or null where there is none or all were.
 export const questionOf = (state) =>
     state.questions?.[state.place]
         || (state.questions && missedOf(state)[state.place - state.questions.length]) || null;
 
-// Whether one trains: a lesson or a drill is on, and the board has what it asks.
-export function isTraining(state) {
-    const asked = stepOf(state) || questionOf(state);
-    return !state.isCompact && Boolean(stepOf(state) || state.drill)
-        && (!asked || keyOf(asked.points) === keyOf(state.points));
+// Whether the board has the step or the question that is on, where there is one.
+const hasItsBoard = (state) => [stepOf(state) || questionOf(state)].every((asked) =>
+    !asked || keyOf(asked.points) === keyOf(state.points));
+
+// Which answers of a drill's questions count now: those of its first round, or of the second one,
+// in which what was missed is asked once more.
+function roundOf(state) {
+    const isSecond = state.questions !== null && state.place >= state.questions.length
+        && state.place < lengthOf(state);
+    return isSecond ? { guesses: "again", estimates: "estimatesAgain" }
+        : { guesses: "guesses", estimates: "estimates" };
+}
+
+// The screens on which one trains.
+const TRAINING = ["waiting", "question", "verdict", "review", "step"];
+
+// What is on, which is the one place that says what is shown: the `screen`; whether one `trains`
+// there; in which lists of the state its answers are, as `round`; what is `estimated`: the pip
+// count, the effective one or the wastage, or null; and what is `hidden` till it's answered: the
+// plays of the chosen roll, and the numbers, as an "estimate" or an "answer".
+//
+// The screens: "home"; the free "board", also beside a lesson or a drill that one has left; it alone
+// in another page, as "embedded"; "teacher"; "games"; the "step" of a lesson; and of a drill
+// "waiting", while its questions are drawn, a "question", its "verdict", and the "review".
+const modes = new WeakMap();
+export function modeOf(state) {
+    if (!modes.has(state)) modes.set(state, modeFrom(state));
+    return modes.get(state);
+}
+
+function modeFrom(state) {
+    const [step, { drill }, round] = [stepOf(state), state, roundOf(state)];
+    const isOn = !state.isCompact && Boolean(step || drill) && hasItsBoard(state);
+    // what a step of a lesson asks comes before what was chosen
+    const estimated = drill ? (drill.ask === "play" ? null : drill.ask)
+        : (isOn && step.estimate) || state.estimate;
+    const guess = answersFor(state[round.guesses], state, state.roll);
+    const estimate = state[round.estimates].find(({ at, kind }) =>
+        at === keyOf(state.points) && kind === estimated);
+    const isAsked = step?.answer && !step.roll && !step.estimate && !state.isAnswered
+        && hasItsBoard(state);
+    const isOpen = estimate || (isOn && step?.estimate && state.isAnswered)
+        || knownOf(state)?.refusal;
+    const screen = state.isCompact ? "embedded" : !isOn ? state.page : step ? "step"
+        : !state.questions ? "waiting" : !questionOf(state) ? "review"
+        : guess || estimate ? "verdict" : "question";
+    return {
+        screen, round, estimated, trains: TRAINING.includes(screen),
+        hidden: {
+            plays: state.guess && !guess,
+            numbers: isAsked ? "answer" : estimated && !isOpen ? "estimate" : null,
+        },
+    };
 }
 
 export const freeOf = ({ points }) => MOST_CHECKERS - sumOf(points);
@@ -68,9 +111,15 @@ export const freeOf = ({ points }) => MOST_CHECKERS - sumOf(points);
 // The answer for a position, or undefined while it isn't known.
 export const answerOf = (state, points = state.points) => state.answers.get(keyOf(points));
 
-// .. and for the other side, where there is one and the database has it.
-export const theirAnswer = (state) =>
-    (state.theirs && !isAwaited(state, state.theirs) ? answerOf(state, state.theirs) : undefined);
+// .. and while the whole board is made ready for it, which the open database doesn't have.
+export function knownOf(state, points = state.points) {
+    const answer = answerOf(state, points);
+    return answer?.status === 4 && state.database !== null && !state.isGivenUp
+        ? undefined : answer;
+}
+
+// .. and for the other side, where there is one.
+export const theirAnswer = (state) => (state.theirs ? knownOf(state, state.theirs) : undefined);
 
 // The 21 rolls of the board's position, or undefined while they aren't known.
 export const rollsOf = (state) => state.rolls.get(keyOf(state.points));
@@ -88,14 +137,39 @@ export function byLoss(plays) {
 // The plays of the chosen roll, or undefined.
 export const chosenOf = (state) => rollsOf(state)?.find(({ dice }) => sameRoll(dice, state.roll));
 
+// Of some guesses that of a roll in the board's position.
+const answersFor = (guesses, { points }, roll) =>
+    guesses.find((guess) => guess.at === keyOf(points) && sameRoll(guess.roll, roll));
+
 // What was guessed of a roll in the board's position; where it is asked once more, then.
 export const guessOf = (state, roll = state.roll) =>
-    (isAgain(state) ? state.again : state.guesses)
-        .find((guess) => guess.at === keyOf(state.points) && sameRoll(guess.roll, roll));
+    answersFor(state[modeOf(state).round.guesses], state, roll);
 
-// The guess of the chosen roll where one trains, and it is a miss, or null.
+// The answers of a drill's first round, each with its question's place and whether it was right.
+export const reviewed = (state) => (state.questions || []).flatMap((question, place) => {
+    const isIts = ({ at }) => at === keyOf(question.points);
+    const guess = state.drill.ask === "play" && state.guesses.find((one) =>
+        isIts(one) && sameRoll(one.roll, question.roll));
+    const estimate = state.estimates.find((one) => isIts(one) && one.kind === state.drill.ask);
+    return guess ? [{ place, question, guess, isRight: !isMiss(guess.play) }]
+        : estimate ? [{ place, question, estimate, isRight: !isFar(estimate) }] : [];
+});
+
+// The miss that is open in the review: the one that was chosen, or the dearest; or null.
+export function openedOf(state) {
+    const misses = reviewed(state).filter(({ guess, isRight }) => guess && !isRight);
+    const dearest = misses.reduce((most, one) =>
+        (most && most.guess.play.loss >= one.guess.play.loss ? most : one), null);
+    return state.opened === undefined ? dearest
+        : misses.find(({ place }) => place === state.opened) || null;
+}
+
+// The guess whose loss is explained: that of the chosen roll where one trains, or the one that is
+// open in the review; or null where there is none or it is no miss.
 export function missOf(state) {
-    const guess = state.guess && isTraining(state) && guessOf(state);
+    const { trains, screen } = modeOf(state);
+    const guess = screen === "review" ? openedOf(state)?.guess
+        : state.guess && trains && guessOf(state);
     return guess && isMiss(guess.play) ? guess : null;
 }
 
@@ -107,48 +181,18 @@ export function reasonsFor(state) {
     return miss && state.why?.key === missKey(miss) ? state.why.says : null;
 }
 
-// Whether the answer for a roll is hidden, since it is to be guessed.
-export const hides = (state, roll = state.roll) => state.guess && !guessOf(state, roll);
-
-// What is to be estimated: the pip count, the effective one or the wastage; or null. What a step of
-// a lesson asks comes before what was chosen.
-export function estimated(state) {
-    const { drill, estimate } = state;
-    if (drill) return drill.ask === "play" ? null : drill.ask;
-    return (isTraining(state) && stepOf(state).estimate) || estimate;
-}
-
-// What was estimated of a position, by what is asked now; where it is asked once more, then.
-export const estimateOf = (state, points = state.points) =>
-    (isAgain(state) ? state.estimatesAgain : state.estimates)
-        .find(({ at, kind }) => at === keyOf(points) && kind === estimated(state));
-
-// Whether a lesson asks for a number of the board's position, and its answer isn't open yet.
-export function asksNumber(state) {
-    const step = stepOf(state);
-    return Boolean(step && step.answer && !step.roll && !step.estimate && !state.isAnswered)
-        && keyOf(step.points) === keyOf(state.points);
-}
-
-// Whether the numbers of the board's position are hidden, since one of them is to be estimated or
-// is asked. The answer of a step that asks for an estimate shows them, too.
-export function hidesNumbers(state) {
-    if (asksNumber(state)) return true;
-    const isOpen = isTraining(state) && stepOf(state)?.estimate && state.isAnswered;
-    return Boolean(estimated(state)) && (!answerOf(state)?.refusal || isAwaited(state))
-        && !estimateOf(state) && !isOpen;
-}
-
-// Whether the whole board is made ready for a position, which the open database doesn't have.
-export function isAwaited(state, points = state.points) {
-    const answer = answerOf(state, points);
-    return answer?.status === 4 && state.database !== null && !state.isGivenUp;
+// What was estimated of the board's position, by what is asked now; where it is asked once more,
+// then.
+export function estimateOf(state) {
+    const { round, estimated } = modeOf(state);
+    return state[round.estimates].find(({ at, kind }) =>
+        at === keyOf(state.points) && kind === estimated);
 }
 
 // The play that is made on the board, or null where none is: the points after its steps, where each
 // checker can go now, and the play itself, once it is whole.
 export function makingOf(state) {
-    if (state.isCompact || !state.roll || !hides(state)) return null;
+    if (state.isCompact || !state.roll || !modeOf(state).hidden.plays) return null;
     const list = chosenOf(state)?.plays;
     if (!list) return { points: state.points, ways: new Map(), play: null };
     const at = reachedBy(state.points, state.roll, state.steps.flat());
@@ -169,7 +213,7 @@ export const hasBegun = ({ steps, picked }) => steps.length > 0 || picked !== nu
 // The play that the board shows: the chosen one, or the best of the chosen roll.
 export function shownPlay(state) {
     const chosen = chosenOf(state);
-    if (!chosen || hides(state)) return null;
+    if (!chosen || modeOf(state).hidden.plays) return null;
     return chosen.plays.find(({ text }) => text === state.shown) || byLoss(chosen.plays)[0];
 }
 
@@ -227,8 +271,9 @@ export function mistakesOf(state) {
 // What is said of a position, once it is known and not to be estimated.
 export function spoken(state) {
     const answer = answerOf(state);
-    if (!answer || hidesNumbers(state)) return "";
-    if (isAwaited(state)) {
+    const { screen, hidden } = modeOf(state);
+    if (!answer || hidden.numbers || PAGES.includes(screen)) return "";
+    if (!knownOf(state)) {
         return `${answer.standing.pips} pips: the database of ${GREATEST} pips is being built.`;
     }
     if (answer.refusal) return answer.refusal;
@@ -242,7 +287,7 @@ export function spoken(state) {
 // .. and of the other side.
 export function spokenOfThem(state) {
     const answer = theirAnswer(state);
-    if (!answer || answer.refusal || hidesNumbers(state)) return "";
+    if (!answer || answer.refusal || modeOf(state).hidden.numbers) return "";
     const { standing, effective, wastage } = answer;
     return `The other side: ${standing.pips} pips, effective pip count ${effective.text}, wastage ${
         wastage.text}.`;
@@ -278,15 +323,20 @@ export function answeredIn({ drill, guesses, estimates }, { points, roll }) {
 
 // What each answer of the drill lost, in thousandths of a roll or of a pip, or null where a question
 // wasn't answered.
-export const lostInEach = (state) => (state.questions || []).map(({ points, roll }) => {
-    const isIts = ({ at }) => at === keyOf(points);
-    if (state.drill.ask === "play") {
-        const guess = state.guesses.find((one) => isIts(one) && sameRoll(one.roll, roll));
-        return guess ? Number(guess.play.loss) : null;
-    }
-    const estimate = state.estimates.find((one) => isIts(one) && one.kind === state.drill.ask);
-    return estimate ? Number(estimate.error) : null;
-});
+export const lostInEach = (state) => ofEach(state, ({ guess, estimate }) =>
+    Number(guess ? guess.play.loss : estimate.error));
+
+// What each answer was, as a text, or null.
+export const playedInEach = (state) => ofEach(state, ({ guess, estimate }) =>
+    (guess ? guess.play.text : signed(estimate.told)));
+
+// Whether each answer of the drill was right, or null where a question wasn't answered.
+export const rightInEach = (state) => ofEach(state, ({ isRight }) => isRight);
+
+function ofEach(state, how) {
+    const rows = new Map(reviewed(state).map((row) => [row.place, how(row)]));
+    return (state.questions || []).map((_, place) => rows.get(place) ?? null);
+}
 
 // What all guesses have lost, in words.
 export function lostInAll(state) {
@@ -318,7 +368,7 @@ export const askedOf = ({ ask }, roll) => (roll ? `Which play of ${roll.join("-"
     : `What is the ${WANTED[ask]}?`);
 
 // Which question of a drill is asked, in words.
-export const whichOf = (state) => (isAgain(state)
+export const whichOf = (state) => (modeOf(state).round.guesses === "again"
     ? `Once more, ${state.place - state.questions.length + 1} of ${missedOf(state).length}`
     : `Question ${state.place + 1} of ${state.questions.length}`);
 
@@ -327,11 +377,11 @@ export const askedIn = (state) =>
     `${whichOf(state)}. ${askedOf(state.drill, questionOf(state).roll)}`;
 
 // A drill by its words, which are in the links of all who are asked the same.
-export const drillKey = ({ theme, seed, ask, level = "any", due }) =>
-    [theme, seed, ask, level, ...(due ? [writeDue(due)] : [])].join();
+export const drillKey = ({ theme, seed, ask, level = "any", due, list }) =>
+    [theme, seed, ask, level, ...(due || list ? [writeDue(due || list)] : [])].join();
 
 // Whether the step of a lesson is about a rule of thumb, and so shows what each is worth.
-export const showsRules = (state) => isTraining(state) && Boolean(stepOf(state)?.rule);
+export const showsRules = (state) => modeOf(state).trains && Boolean(stepOf(state)?.rule);
 
 // What was measured of the rules over the open database, or null.
 export const measuredOf = ({ measures, database }) =>
@@ -341,11 +391,11 @@ export const measuredOf = ({ measures, database }) =>
 export const toldOf = ({ told, error }) =>
     `You said ${signed(told)}: ${decimal(error)} pips off.`;
 
-const signed = (told) => (told < 0n ? `\u2212${decimal(-told)}` : decimal(told));
+export const signed = (told) => (told < 0n ? `\u2212${decimal(-told)}` : decimal(told));
 
 // The mean of all errors of what is estimated now, in thousandths, or null where there are none.
 export function meanError(state) {
-    const errors = state.estimates.filter(({ kind }) => kind === estimated(state))
+    const errors = state.estimates.filter(({ kind }) => kind === modeOf(state).estimated)
         .map(({ error }) => error);
     return errors.length > 0 ? meanOf(errors) : null;
 }
@@ -353,7 +403,7 @@ export function meanError(state) {
 // The kept positions in the order in which they are shown: by effective pip count, what isn't known
 // last; as they were kept while a roll is to be guessed, since the order would tell.
 export function orderOf(state) {
-    if (hides(state)) return state.kept;
+    if (modeOf(state).hidden.plays) return state.kept;
     const known = ({ points }) => answerOf(state, points)?.effective?.thousandths ?? null;
     return state.kept.map((entry, place) => ({ entry, place, count: known(entry) }))
         .sort((one, other) => {

@@ -7,8 +7,7 @@ import { LEVELS, themeOf } from "../themes.js";
 import { readEstimate, readLessons, thousandthsOf, writeLesson } from "../trainer.js";
 import { AFRESH, setPoints } from "./board.js";
 import {
-    answerOf, drillKey, estimated, heardOf, hidesNumbers, isAgain, isTraining, keyOf, lessonOf,
-    lostInAll, questionOf, spoken, stepOf, toldOf, toldStep,
+    answerOf, drillKey, heardOf, keyOf, lessonOf, lostInAll, modeOf, questionOf, spoken, stepOf, toldOf, toldStep,
 } from "./reads.js";
 
 // Of a drill: its questions, once they are drawn; of each guess the position, the roll, the play
@@ -38,6 +37,9 @@ export function askNext(state, place) {
     return { ...next, said: heardOf(next) };
 }
 
+// What is open in the review: the miss of a place, or null.
+export const openMiss = (state, opened) => ({ ...state, opened });
+
 // The state without its drill, whose run is kept, and with another one or none; one that was begun
 // goes on. A lesson ends.
 export function changeDrill(state, drill) {
@@ -45,8 +47,8 @@ export function changeDrill(state, drill) {
     if (state.drill) runs.set(drillKey(state.drill), runOf(state));
     const run = (drill && runs.get(drillKey(drill))) || NO_RUN;
     return {
-        ...state, ...AFRESH, ...run, drill, runs, lesson: null, text: "", given: null, place: 0,
-        seedFault: "", estimate: null, notice: "", resultTold: "",
+        ...state, ...AFRESH, ...run, page: "board", drill, runs, lesson: null, text: "",
+        given: null, place: 0, opened: undefined, seedFault: "", estimate: null, notice: "", resultTold: "",
     };
 }
 
@@ -85,7 +87,9 @@ export function chooseDrill(state, { theme, ask, level, seed }, another) {
 // No drill and no lesson.
 export function endTraining(state) {
     const what = state.drill ? "The drill is over." : "The lesson is over.";
-    return { ...changeDrill(state, null), guess: false, roll: null, step: 1, said: what };
+    return {
+        ...changeDrill(state, null), page: state.draft ? "board" : "home", guess: false, roll: null, step: 1, said: what,
+    };
 }
 
 // Another step of the lesson.
@@ -134,7 +138,8 @@ export function errorOf(points, kind, told, answer) {
 export function giveEstimate(state, text) {
     const told = readEstimate(text);
     const answer = answerOf(state);
-    if (!hidesNumbers(state) || !estimated(state)) return state;
+    const { estimated, hidden, round, trains } = modeOf(state);
+    if (!hidden.numbers || !estimated) return state;
     if (told === null) {
         return {
             ...state, estimateFault: "An estimate is a number with at most three decimals, such as 51 or 51.5.",
@@ -145,9 +150,9 @@ export function giveEstimate(state, text) {
             ...state, estimateFault: "The number is still being computed: compare in a moment.",
         };
     }
-    const estimate = errorOf(state.points, estimated(state), told, answer);
-    const list = isAgain(state) ? "estimatesAgain" : "estimates";
-    const step = isTraining(state) && stepOf(state) ? toldStep(state) : null;
+    const estimate = errorOf(state.points, estimated, told, answer);
+    const list = round.estimates;
+    const step = trains && stepOf(state) ? toldStep(state) : null;
     const next = {
         ...state, estimateFault: "", [list]: [...state[list], estimate],
         isAnswered: state.isAnswered || Boolean(step),
