@@ -55,9 +55,11 @@ function barOf(state) {
 }
 
 // Words that a beginner doesn't know, each explained at a tap.
-const explained = (words) => words.length > 0 && h("div", { class: "words" },
-    words.map(([name, , meaning]) => h("details", { "data-key": `word ${name}` },
-        h("summary", {}, name), h("p", {}, meaning))));
+const explained = (words) => words.length > 0 && h("details", {
+    class: "words", "data-key": `words ${words.map(([name]) => name)}`,
+},
+    h("summary", {}, words.length > 1 ? "Words: " : "A word: ", words.map(([name]) => name).join(", ")),
+    h("dl", {}, words.map(([name, , meaning]) => [h("dt", {}, name), h("dd", {}, meaning)])));
 
 const textsOf = ({ text, ask, answer }) => [text, ask, answer];
 

@@ -1198,7 +1198,7 @@ async function driveLessons(browser) {
             [entries, true]);
         await small.close();
     }
-    equal("elsewhere there is no such link", await guess.value('document.getElementById("whole").offsetHeight'), 0);
+    equal("elsewhere there is no such link", await guess.value('document.getElementById("whole")'), null);
     equal("nothing went wrong", page.troubles(), []);
 }
 
@@ -1288,6 +1288,54 @@ async function driveClicks(browser) {
     }
     equal("clicks on lessons that were lost", lost, []);
     if (lost.length === 0) equal("aimed at before the page was ready", early > 40, true);
+}
+
+// A match of each form whose last play was made a worse one, from the drop to the first question that comes back: what it
+// lost is what the program says.
+async function driveGames(browser) {
+    const [mat, sgf] = ["mat", "sgf"].map((kind) =>
+        readFileSync(join(ROOT, `python/tests/matches/short.${kind}`), "utf8"));
+    const worse = [[mat.replace(/ 22\) 53: 5\/0 6\/3[^]*/, " 22) 53: 5/0 4/1\n"), "x.mat"],
+        [mat.replace(/ 22\) 53: 5\/0 6\/3[^]*/, " 22) 53: 6/1 5/2\n"), "x.mat"],
+        [sgf.replace(";W[53ezfc]\n;B[32wzux]", ";W[53fafc]"), "x.sgf"], [sgf.replace("ezfc]\n;B[32wzux]", "facz]"), "x.sgf"]];
+    let count = 0;
+    for (const [text, name] of worse) {
+        const page = await browser.open(address, { width: 360, height: 780, mobile: true });
+        await page.until(HOME);
+        await page.value(`(() => {
+            const transfer = new DataTransfer();
+            transfer.items.add(new File([${JSON.stringify(text)}], "${name}"));
+            document.body.dispatchEvent(new DragEvent("drop", { dataTransfer: transfer, bubbles: true, cancelable: true }));
+        })()`);
+        await page.until('document.querySelector("#games .reviewed") || document.querySelector("#match-why p")', 60000);
+        const fault = await page.value('document.querySelector("#match-why").textContent');
+        if (fault) {
+            fault.includes("no play of 53 leads from 1,0,0,0,3,2") || fault.includes("has no checker")
+                || wrong(`${name}: ${fault}`);
+            continue;
+        }
+        count += 1;
+        const losses = ask("moves 1,0,0,0,3,2 53").split(" ").slice(1).map((word) => word.split(":"));
+        const [told, asks] = await page.value(`[[...document.querySelectorAll("#games .lost dd:last-child")].at(-1)?.textContent,
+            document.querySelectorAll('[data-key^="ask "]').length]`);
+        equal(`${name}: what it lost`, losses.some(([, loss]) => {
+            const [above, below] = loss.split("/").map(BigInt);
+            const rolls = (Number((2000n * above + below) / (2n * below)) / 1000).toFixed(3);
+            const pips = (Number((2000n * 49n * above + 6n * below) / (12n * below)) / 1000).toFixed(3);
+            return above > 0n && told === `${rolls} rolls, ${pips} pips`;
+        }), true);
+        equal(`${name}: one player missed`, asks, 1);
+        await page.value(`document.querySelector('[data-key^="ask "]').click()`);
+        await page.value('location.hash = "#home"');
+        await page.until(`document.querySelector('[data-key="today"]')?.textContent.includes("1 again")`);
+        await page.value(`document.querySelector('[data-key="today"]').scrollIntoView({ block: "center" })`);
+        await page.tap('[data-key="today"]');
+        await page.until('document.querySelector("#board .source")', 60000);
+        equal(`${name}: the miss is asked`, (await page.value(SHOWN)).values, "1,0,0,0,3,2");
+        equal("nothing went wrong", page.troubles(), []);
+        await page.close();
+    }
+    equal("matches of both forms", count >= 2, true);
 }
 
 const TEACHING = encodeURI("#t=What wastage is&at=0,0,0,4,4,1&roll=31&p=0,0,0,4,4,1&c=Nine on the high points&p=2,2,2,2,2,2&c=Two on each point&p=15,0,0,0,0,0&c=Fifteen on the ace point");
@@ -1701,7 +1749,7 @@ const OWN = {
     wider: driveWider, moments: driveMoments, older: driveOlder, hosted: driveHosted, touch: driveTouch,
         finger: driveFinger, print: drivePrint,
     audit: driveAudit, pictures: takePictures, drill: driveDrill, sight: driveSight, lessons: driveLessons,
-        still: driveStill, clicks: driveClicks,
+        still: driveStill, clicks: driveClicks, games: driveGames,
 };
 
 // Those in which each browser is.
