@@ -15,8 +15,8 @@ function totals(state, act) {
             .map((name) => h("th", { scope: "col" }, name)))),
         h("tbody", {}, rows.map(({ name, plays, choices, losing, lost, over }, player) => h("tr", {},
             h("th", { scope: "row" }, name),
-            [plays, choices, losing, decimalOf(lost), decimalOf(inPips(lost)), ...(isOver ? [over] : [])]
-                .map((cell) => h("td", {}, cell)),
+            [plays, choices, losing, decimalOf(lost), decimalOf(inPips(lost)),
+                ...(isOver ? [over] : [])].map((cell) => h("td", {}, cell)),
             h("td", {}, missesOf(state, player).length > 0
                 && button(`ask ${player}`, "Ask me these", () => act.askMisses(player),
                     { "aria-label": `Ask me the misses of ${name}` }))))));
@@ -37,27 +37,28 @@ export function games(state, act) {
     const isKnown = match?.rows && !why;
     return [
         h("h2", {}, "Your games"),
-        h("p", { class: "how" }, "Drop a match here as a .mat or .sgf file, as GNU Backgammon and XG save "
-            + "them, or paste its text. Each play of the bearoff is compared with the best; what was missed "
-            + "can come back as questions. Nothing of it is sent."),
+        h("p", { class: "how" }, "Drop a match here as a .mat or .sgf file, as GNU Backgammon and XG "
+            + "save them, or paste its text. Each play of the bearoff is compared with the best; what "
+            + "was missed can come back as questions. Nothing of it is sent."),
         h("p", { class: "choices" },
             h("label", {}, "A file ", h("input", {
                 type: "file", "data-key": "match file", accept: ".mat,.sgf,.txt",
                 change: ({ target }) => act.matchFile(target.files[0]),
             }))),
         h("p", {}, h("textarea", {
-            "data-key": "match text", rows: 4, spellcheck: "false", "aria-label": "The text of a match",
-            "aria-invalid": String(Boolean(why)), "aria-describedby": "match-why",
+            "data-key": "match text", rows: 4, spellcheck: "false",
+            "aria-label": "The text of a match", "aria-invalid": String(Boolean(why)), "aria-describedby": "match-why",
         })),
-        h("p", {}, button("read match", "Show", () => act.match(), { class: match ? null : "first" })),
+        h("p", {}, button("read match", "Show", () => act.match(),
+            { class: match ? null : "first" })),
         fault("match-why", why && `No match: ${why}`),
         h("p", { role: "status", class: "hint" }, match && !match.rows ? COMING : matchTold),
         isKnown && (gradedOf(state).length === 0
             ? h("p", {}, "No bearoff was played out in it.") : [
                 totals(state, act),
-                h("p", { class: "hint" }, "Losses are of one side\u2019s rolls and no equity: the other ",
-                    "player, the cube and the score are left aside, and in a decided game a loss may ",
-                    "cost nothing."),
+                h("p", { class: "hint" }, "Losses are of one side\u2019s rolls and no equity: the ",
+                    "other player, the cube and the score are left aside, and in a decided game a ",
+                    "loss may cost nothing."),
                 h("ol", { class: "reviewed" }, gradedOf(state).map((one) => row(one, match.names))),
             ]),
     ];

@@ -60,6 +60,8 @@ export const doors = (points) => h("div", { class: "doors" },
         miniature(points), h("b", {}, "The board"),
         h("span", {}, "Any position, with its numbers and all its plays.")),
     h("a", { href: "#games", "data-key": "your games", class: "door" },
-        h("b", {}, "Your games"), h("span", {}, "A match as a file: what you missed becomes questions.")),
+        h("b", {}, "Your games"),
+        h("span", {}, "A match as a file: what you missed becomes questions.")),
     h("a", { href: "#teacher", "data-key": "teachers", class: "door" },
-        h("b", {}, "For teachers"), h("span", {}, "Drills of your own, sheets, and results of a class.")));
+        h("b", {}, "For teachers"),
+        h("span", {}, "Drills of your own, sheets, and results of a class.")));

@@ -58,6 +58,10 @@ export function readTyped(typed) {
     }
 }
 
+// The address of a drill, or of one of its questions.
+export const linkOf = (drill, place = 0) =>
+    writeLink({ ...readLink("#at=0,0,0,0,0,0"), drill, place }).replace(/&at=.*/, "");
+
 // What of a link can't be taken, in sentences: each word with what it has to be.
 function faultsOf(words, drill) {
     const isNone = (pattern) => (value) => !pattern.test(value);

@@ -275,7 +275,8 @@ const LINES = {
         ({ ...memory, rating: sums.map(Number) })],
     level: [/^([a-z]+) ([a-z]+) (-|[01]{1,20})$/, (memory, [theme, level, answers]) =>
         (themeOf(theme)?.isPlayed && ladderOf(theme).includes(level) && isNew(memory.levels, theme)
-            ? { ...memory, levels: [...memory.levels, [theme, level, answers.replace("-", "")]] } : null)],
+            ? { ...memory, levels: [...memory.levels, [theme, level, answers.replace("-", "")]] }
+            : null)],
     theme: [/^([a-z]+) (\d{1,7}) (\d{1,7}) (\d{1,9})$/, (memory, [name, ...counts]) =>
         ((themeOf(name) || ESTIMATED.includes(name)) && isNew(memory.themes, name)
             && isTally(counts.map(Number))

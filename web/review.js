@@ -11,10 +11,13 @@ import { h } from "./tree.js";
 
 // What was answered, what is right, and how far that is apart.
 const cellsOf = ({ guess, estimate }) => (guess
-    ? [guess.play.text, guess.best.text, guess.play.isBest ? "nothing" : `\u2212${decimalOf(guess.play.exact)}`]
+    ? [guess.play.text, guess.best.text,
+        guess.play.isBest ? "nothing" : `\u2212${decimalOf(guess.play.exact)}`]
     : [signed(estimate.told), signed(estimate.exact), decimal(estimate.error)]);
 
-const HEADS = { play: ["Yours", "Best", "Lost, in rolls"], number: ["Yours", "Right", "Off, in pips"] };
+const HEADS = {
+    play: ["Yours", "Best", "Lost, in rolls"], number: ["Yours", "Right", "Off, in pips"],
+};
 
 // What stands below a row that is open: both plays and why the one loses.
 const openedRow = ({ question: { points }, guess }, state) => [

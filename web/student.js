@@ -99,8 +99,8 @@ function all({ memory, isMemoryOpen, memoryFault, memoryTold }, act) {
             "takes it one step back."),
         h("p", {}, "The rating begins at 0, and looks at about the last fifty plays: 100 where nothing ",
             "was lost, 0 where as much was lost as by plays at random."),
-        memory.levels.length > 0 && h("p", { "data-key": "levels" }, "Levels, by the last twenty answers of each theme: ",
-            memory.levels.map(([theme, level]) =>
+        memory.levels.length > 0 && h("p", { "data-key": "levels" },
+            "Levels, by the last twenty answers of each theme: ", memory.levels.map(([theme, level]) =>
                 `${themeOf(theme).words}, ${levelWords(level)}`).join("; "), "."),
         memory.themes.length > 0 && themes(memory),
         h("p", {}, h("label", {}, "As a text ", h("textarea", {

@@ -1,15 +1,12 @@
 // What a teacher has: a drill for a class with its sheet and key, and the results.
 import { miniature } from "./board.js";
 import { chooser } from "./home.js";
-import { readLink, writeLink } from "./link.js";
+import { linkOf } from "./link.js";
 import { COMING, dicePicture } from "./panels.js";
 import { classOf, readResults } from "./results.js";
 import { decimal } from "./texts.js";
 import { drillTitle } from "./training.js";
 import { button, fault, h } from "./tree.js";
-
-const questionLink = (drill, place) =>
-    writeLink({ ...readLink("#at=0,0,0,0,0,0"), drill, place }).replace(/&at=.*/, "");
 
 // What a class did in a drill, by the texts that its pupils send back.
 function ofClass({ results: text }, act) {
@@ -41,11 +38,12 @@ function ofClass({ results: text }, act) {
                     h("th", { scope: "col" }, name)))),
                 h("tbody", {}, known.questions.map(({ place, count, played }) => h("tr", {},
                     h("th", { scope: "row" }, h("a", {
-                        href: questionLink(known.drill, place), "data-key": `asked ${place}`,
+                        href: linkOf(known.drill, place), "data-key": `asked ${place}`,
                     }, `Question ${place + 1}`)),
                     h("td", {}, `${count} of ${results.length}`),
                     h("td", {}, played.map(({ text: what, names, lost }) =>
-                        `${what} (${lost === 0 ? "best" : `\u2212${decimal(lost)}`}): ${names.join(", ")}`)
+                        `${what} (${lost === 0 ? "best" : `\u2212${decimal(lost)}`}): `
+                            + names.join(", "))
                         .join("; ") || "\u2013"))))),
         ]);
 }
@@ -54,8 +52,10 @@ function ofClass({ results: text }, act) {
 const keyShown = ({ sheet }, act) => sheet && [
     h("h3", {}, "Sheet and key"),
     !sheet.key ? h("p", {}, COMING) : [
-        h("p", { class: "choices" }, button("print sheet", "Print both", () => act.print(), { class: "first" }),
-            h("span", { class: "hint" }, "The sheet has a line for the name; the key is a page of its own.")),
+        h("p", { class: "choices" },
+            button("print sheet", "Print both", () => act.print(), { class: "first" }),
+            h("span", { class: "hint" }, "The sheet has a line for the name; the key is a page of ",
+                "its own.")),
         h("ol", { class: "key" }, sheet.questions.map(({ points, roll }, place) => h("li", {},
             miniature(points), " ", roll && dicePicture(roll), " ", sheet.key[place]))),
     ],
@@ -64,8 +64,9 @@ const keyShown = ({ sheet }, act) => sheet && [
 // A drill for a class: of positions, or of a theme.
 const forClass = (state, act) => [
     h("h2", {}, "A drill for a class"),
-    h("p", { class: "how" }, "Positions of your own, one a line: six counts, an XGID or a GNU Backgammon ID, "
-        + "and behind it the roll where a play is asked. Without any the theme is asked."),
+    h("p", { class: "how" }, "Positions of your own, one a line: six counts, an XGID or a GNU "
+        + "Backgammon ID, and behind it the roll where a play is asked. Without any the theme is "
+        + "asked."),
     h("p", {}, h("textarea", {
         "data-key": "positions", rows: 4, spellcheck: "false", placeholder: "2,2,2,2,2,2 31",
         "aria-label": "Positions, one a line", "aria-invalid": String(Boolean(state.sheetFault)),

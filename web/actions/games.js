@@ -27,7 +27,9 @@ export function gamesActions({ session, change, document, window, store, today, 
             const memory = store.change(session.state.memory, (kept) => misses.reduce((so, one) =>
                 asked(so, one, day), kept));
             change(withMemory, memory, day, store.why);
-            change(tellMatch, `${misses.length === 1 ? "One question comes" : `${misses.length} questions come`} back from today on.`);
+            const count = misses.length;
+            change(tellMatch, `${count === 1 ? "One question comes" : `${count} questions come`} `
+                + "back from today on.");
         },
     };
 }

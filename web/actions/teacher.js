@@ -1,5 +1,5 @@
 // What a teacher does: a drill for a class, its link and its sheet.
-import { readLink, writeLink } from "../link.js";
+import { linkOf } from "../link.js";
 import { drillOf, readSeed } from "../questions.js";
 import { readPositions, refuseSheet, showSheet, tellSheet } from "../state/teacher.js";
 import { beginDrill } from "../state/training.js";
@@ -9,7 +9,8 @@ export function teacherActions({ session, change, document, window, focusOn, any
     const value = (key) => document.querySelector(`[data-key="${key}"]`).value;
     // the drill of the positions that were typed, or else of the theme, or why it is none
     const withDrill = (use) => {
-        const [text, theme, ask, level, seed] = ["positions", "theme", "asked", "level", "seed"].map(value);
+        const [text, theme, ask, level, seed] =
+            ["positions", "theme", "asked", "level", "seed"].map(value);
         const isPossible = ask !== "play" || themeOf(theme).isPlayed;
         const read = seed.trim() === "" ? anySeed() : readSeed(seed);
         const { drill, fault } = text.trim() !== "" ? readPositions(text, ask)
@@ -24,8 +25,7 @@ export function teacherActions({ session, change, document, window, focusOn, any
     return {
         openClass: () => withDrill((drill) => change(beginDrill, drill)),
         copyClass: () => withDrill(async (drill) => {
-            const page = window.location.href.replace(/#.*/, "");
-            const href = `${page}${writeLink({ ...readLink("#at=0,0,0,0,0,0"), drill }).replace(/&at=.*/, "")}`;
+            const href = window.location.href.replace(/#.*/, "") + linkOf(drill);
             const told = await window.navigator.clipboard.writeText(href)
                 .then(() => "The link of the class is copied.",
                 () => `The browser lets this page copy nothing. The link: ${href}`);

@@ -67,7 +67,8 @@ export function trainingActions({
                 focusOn(["result name"], "coach");
                 return;
             }
-            const text = writeResult(drill, name, lostInEach(session.state), playedInEach(session.state));
+            const [lost, played] = [lostInEach, playedInEach].map((each) => each(session.state));
+            const text = writeResult(drill, name, lost, played);
             const told = await window.navigator.clipboard.writeText(text)
                 .then(() => "The result is copied: send it back.",
                 () => `The browser lets this page copy nothing. The result: ${text}`);

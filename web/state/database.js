@@ -17,7 +17,8 @@ export const firstBound = ({ points }) => (pipsOf(points) > FIRST ? GREATEST : F
 export function needsMore(state) {
     const { database, drill, kept, theirs, match, sheet } = state;
     if (!database || database.bound >= GREATEST) return false;
-    return state.bound === GREATEST || [drill, sheet?.drill].some((one) => one && database.bound < mostOf(one))
+    return state.bound === GREATEST
+        || [drill, sheet?.drill].some((one) => one && database.bound < mostOf(one))
         || Boolean(theirs && pipsOf(theirs) > database.bound)
         || [state, ...kept, ...(lessonOf(state)?.steps || []), ...(match?.turns || [])]
             .some(({ points }) => pipsOf(points) > database.bound);
@@ -68,7 +69,9 @@ export function wanted(state) {
     if (sheet && !sheet.questions && state.database.bound >= mostOf(sheet.drill)) {
         return { kind: "sheet", sheet, drill: sheet.drill };
     }
-    if (match && match.database !== state.database) return { kind: "grade", match, turns: match.turns };
+    if (match && match.database !== state.database) {
+        return { kind: "grade", match, turns: match.turns };
+    }
     const { drill, questions, picks } = state;
     if (!drill || state.database.bound < mostOf(drill)) return null;
     if (!questions) return { kind: "draw", drill };

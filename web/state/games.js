@@ -37,7 +37,8 @@ export const playersOf = (state) => state.match.names.map((name, player) => {
 export const missesOf = (state, player) => gradedOf(state)
     .filter((turn) => turn.player === player && isMiss(turn.play))
     .map(({ points, dice, play }) => ({
-        points, roll: [...dice].sort((one, other) => other - one), lost: Number(play.loss), theme: "all",
+        points, roll: [...dice].sort((one, other) => other - one), lost: Number(play.loss),
+        theme: "all",
     }));
 
 export const tellMatch = (state, matchTold) => ({ ...state, matchTold });

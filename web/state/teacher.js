@@ -8,7 +8,8 @@ const ROLL = /^(.*\S)\s+([1-6])-?([1-6])\s*$/;
 function readLine(line) {
     const [, front, ...dice] = ROLL.exec(line) || [];
     const split = front && readTyped(front);
-    const { points, roll, fault } = split && !split.fault ? { ...split, roll: dice.map(Number) } : readTyped(line);
+    const { points, roll, fault } = split && !split.fault
+        ? { ...split, roll: dice.map(Number) } : readTyped(line);
     return { points, fault, roll: roll && [...roll].sort((one, other) => other - one) };
 }
 
@@ -22,9 +23,12 @@ export function readPositions(text, ask) {
         if (fault) return refuse(fault);
         if (points.every((count) => count === 0)) return refuse("There is no checker.");
         if (ask === "play" && !roll) {
-            return refuse("A play is asked, so a roll stands behind the position, as in 2,2,2,2,2,2 31.");
+            return refuse("A play is asked, so a roll stands behind the position, as in "
+                + "2,2,2,2,2,2 31.");
         }
-        if (list.length === MOST_LISTED) return refuse(`A drill has at most ${MOST_LISTED} positions.`);
+        if (list.length === MOST_LISTED) {
+            return refuse(`A drill has at most ${MOST_LISTED} positions.`);
+        }
         list.push({ points, roll: ask === "play" ? roll : null });
     }
     return list.length === 0 ? { drill: null, fault: "There is no position." }

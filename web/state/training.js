@@ -7,7 +7,8 @@ import { LEVELS, themeOf } from "../themes.js";
 import { readEstimate, readLessons, thousandthsOf, writeLesson } from "../trainer.js";
 import { AFRESH, setPoints } from "./board.js";
 import {
-    answerOf, drillKey, heardOf, keyOf, lessonOf, lostInAll, modeOf, questionOf, spoken, stepOf, toldOf, toldStep,
+    answerOf, drillKey, heardOf, keyOf, lessonOf, lostInAll, modeOf, questionOf, spoken, stepOf,
+    toldOf, toldStep,
 } from "./reads.js";
 
 // Of a drill: its questions, once they are drawn; of each guess the position, the roll, the play
@@ -48,7 +49,8 @@ export function changeDrill(state, drill) {
     const run = (drill && runs.get(drillKey(drill))) || NO_RUN;
     return {
         ...state, ...AFRESH, ...run, page: "board", drill, runs, lesson: null, text: "",
-        given: null, place: 0, opened: undefined, seedFault: "", estimate: null, notice: "", resultTold: "",
+        given: null, place: 0, opened: undefined, seedFault: "", estimate: null, notice: "",
+        resultTold: "",
     };
 }
 
@@ -88,7 +90,8 @@ export function chooseDrill(state, { theme, ask, level, seed }, another) {
 export function endTraining(state) {
     const what = state.drill ? "The drill is over." : "The lesson is over.";
     return {
-        ...changeDrill(state, null), page: state.draft ? "board" : "home", guess: false, roll: null, step: 1, said: what,
+        ...changeDrill(state, null), page: state.draft ? "board" : "home", guess: false,
+        roll: null, step: 1, said: what,
     };
 }
 
