@@ -96,8 +96,8 @@ PLANTED = [
     (
         "build_wants_memory_over_15_pips",
         READY,
-        "        let ranks = Ranks::new();",
-        "        if bound > 15 { return Err(BuildFault::Memory); }\n        let ranks = Ranks::new();",
+        "        Ok(ReadyBuild {",
+        "        if bound > 15 { return Err(BuildFault::Memory); }\n        Ok(ReadyBuild {",
         BUILDS,
     ),
     (

@@ -56,7 +56,7 @@ nothing-part old new bytes none = (0, none)
 -- the file of a version, a bound, and these records, up to a rank
 module _ (version : Version) (bound : ℕ) (bytes : ℕ → List ℕ) where
   -- up to more ranks
-  file-more : (n m : ℕ) → file_of version bound bytes n ++ records_from bytes n m
+  pub file-more : (n m : ℕ) → file_of version bound bytes n ++ records_from bytes n m
       ≡ file_of version bound bytes (n + m)
   file-more n m =
       let here : 0 + n ≡ n = omega arith in

@@ -1,81 +1,114 @@
--- What is kept of the records before any is made, and what the record of the next rank is.
-use Rattle.std.proofs.Common.{◌≡◌, ℕ, ◌+◌, ◌-◌, ◌<◌, List, [], ◌≤◌, length, get_or, sym, ap, subst, ◌∙◌, arith}
-use Rattle.retrograde.specs.AllRecords.{AllRecords, mean_of_rank, plays_of_rank, shares_of_rank, bytes_of_rank}
-use Rattle.std.specs.Prelude.{slice_index, slice_index_or}
-use Rattle.race_model.specs.Positions.{pips}
-use Rattle.race_model.specs.Ranks.{at_rank, count_to}
-use Rattle.race_model.specs.Versions.{Version}
-use Rattle.race_model.proofs.Ranks.RankOrder.{at_rank_position}
-use Rattle.db_layout.specs.Records.{record_of, IsHeld}
-use Rattle.retrograde.proofs.Held.{held}
-use Rattle.retrograde.specs.KeptRecords.{AreKept, AreLower}
+-- What is kept of the records, when there is more room for it, and how much room the next pip count
+-- needs.
+use Rattle.std.proofs.Common.{◌≡◌, ⊎_elim, ℕ, suc, ◌+◌, ◌-◌, ◌*◌, ◌<◌, ◌≤◌, List, ◌++◌, length, take, drop}
+use Rattle.std.proofs.Common.{ap, sym, ◌∙◌, arith}
+use Rattle.std.proofs.lemmas.List.{take_at}
+use Rattle.std.specs.Prelude.{slice_index}
+use Rattle.std.proofs.Math.Nat.{mul-le-mul_left}
+use Rattle.std.proofs.lemmas.Bool.{cases_lt}
+use Rattle.race_model.specs.Ranks.{first_of, count_to}
+use Rattle.race_model.specs.Versions.{Version, record_length}
+use Rattle.race_model.specs.Files.{record_place}
+use Rattle.race_model.proofs.RightFiles.Places.{record_place-by, record_place-rises}
+use Rattle.db_layout.proofs.RecordPlaces.{first_of-next, place_beyond}
+use Rattle.retrograde.specs.KeptRecords.{AreKept, level_shares}
+use Rattle.retrograde.proofs.KeptShares.{kept-agree, kept-short}
 
 -- nothing is kept yet
-pub kept-none : (full : AllRecords) (means : List ℕ) (spreads plays : List (List ℕ)) →
-    means ≡ [] → spreads ≡ [] → plays ≡ [] → AreKept full means spreads plays
-kept-none full means spreads plays no_means no_spreads no_plays = record {
-  means_are = λ r lt. omega (arith, ap length no_means);
-  spreads_few = omega (arith, ap length no_spreads);
-  spreads_are = λ i lt. absurd (omega (arith, ap length no_spreads));
-  plays_few = omega (arith, ap length no_plays);
-  plays_are = λ i lt. absurd (omega (arith, ap length no_plays));
-}
+pub kept-none : (means places shares : List ℕ) → slice_index places 0 ≡ 0 →
+    AreKept 0 means places shares
+kept-none means places shares start = record {
+  means_are = λ full r lt. absurd (omega (arith, lt));
+  shares_are = λ full r lt. absurd (omega (arith, lt));
+  placed = record {
+    next = λ r lt. absurd (omega (arith, lt));
+    few = λ r lt. absurd (omega (arith, lt));
+    parts = λ r lt. absurd (omega (arith, lt));
+    rise = λ r le. omega (arith, ap (slice_index places) (none r le));
+    inside = omega (arith, start);
+  };
+  small = omega (arith, start);
+} where
+  none : (r : ℕ) → r ≤ 0 → r ≡ 0
+  none r le = omega (arith, le)
 
--- the shares of a rank that is kept
-pub kept-shares : (full : AllRecords) (means : List ℕ) (spreads plays : List (List ℕ)) (r : ℕ) →
-    AreKept full means spreads plays → length means - length spreads ≤ r → r < length means →
-    slice_index_or spreads (r - (length means - length spreads)) [] ≡ shares_of_rank full r
-kept-shares full means spreads plays r kept from under =
-    kept.spreads_are (r - (length means - length spreads)) (omega (arith, from, under))
-    ∙ ap (shares_of_rank full) (back (length means) (length spreads) r kept.spreads_few from)
+-- the first n means, places and shares stay kept where they stay
+pub kept-stays : (n : ℕ) (means places shares new_means new_places new_shares :
+    List ℕ) → AreKept n means places shares →
+    ((r : ℕ) → r < n → slice_index new_means r ≡ slice_index means r) →
+    ((r : ℕ) → r ≤ n → slice_index new_places r ≡ slice_index places r) →
+    take (slice_index places n) new_shares ≡ take (slice_index places n) shares →
+    slice_index places n ≤ length new_shares → AreKept n new_means new_places new_shares
+kept-stays n means places shares new_means new_places new_shares kept same_means same_places
+    same_shares inside = record {
+      means_are = λ full r lt. same_means r lt ∙ kept.means_are full r lt;
+      shares_are = λ full r lt.
+          kept-agree shares new_shares places new_places r (slice_index places n) same_shares
+          (same_places r (omega (arith, lt))) (same_places (r + 1) (omega (arith, lt)))
+          (kept.placed.next r lt) (kept.placed.rise (r + 1) (omega (arith, lt)))
+          ∙ kept.shares_are full r lt;
+      placed = record {
+        next = λ r lt.
+            omega (
+              arith,
+              same_places r (omega (arith, lt)),
+              same_places (r + 1) (omega (arith, lt)),
+              kept.placed.next r lt,
+            );
+        few = λ r lt.
+            omega (
+              arith,
+              same_places r (omega (arith, lt)),
+              same_places (r + 1) (omega (arith, lt)),
+              kept.placed.few r lt,
+            );
+        parts = λ r lt.
+            rw (same_places r (omega (arith, lt)), same_places (r + 1) (omega (arith, lt)))
+            (kept.placed.parts r lt);
+        rise = λ r le.
+            omega (arith, same_places r le, same_places n (omega arith), kept.placed.rise r le);
+        inside = omega (arith, same_places n (omega arith), inside);
+      };
+      small = omega (arith, same_places n (omega arith), kept.small);
+    }
+
+-- a vector that is lent as a slice holds what the slice holds then
+pub lent-whole : {X : Type 0} (new old : List X) (len : ℕ) → length new ≡ length old →
+    len ≡ length old → take len (new ++ drop (length new) old) ≡ new
+lent-whole new old len same is = take_at new (drop (length new) old) len (same ∙ sym is)
+
+-- the shares of a pip count have room where its records have
+pub level-fits : (version : Version) (p place : ℕ) → p ≤ 58 →
+    place ≤ record_place version (first_of p) →
+    place + level_shares p ≤ record_place version (count_to p)
+level-fits version p place low before =
+    omega (
+      arith,
+      before,
+      record_place-by version (first_of p),
+      record_place-by version (count_to p),
+      ap (record_place version) (first_of-next p),
+      record_place-by version (first_of (p + 1)),
+      place_beyond (record_length version) p,
+      ap (λ n. (n - first_of p) * record_length version p) (first_of-next p),
+      mul-le-mul_left (count_to p - first_of p) (kept-short version p low),
+    )
+
+-- no record begins before one of lower rank
+pub places-rise : (version : Version) (r n : ℕ) → r ≤ n →
+    record_place version r ≤ record_place version n
+places-rise version r n le = ⊎_elim
+    (λ less.
+    omega (
+      arith,
+      record_place-rises version r (n - suc r),
+      ap (record_place version) (parts r n less),
+    ))
+    (λ last. omega (arith, ap (record_place version) (same r n le last)))
+    (cases_lt r n)
   where
-    back : (n m r : ℕ) → m ≤ n → n - m ≤ r → n - m + (r - (n - m)) ≡ r
-    back n m r few h = omega (arith, few, h)
+    parts : (a b : ℕ) → a < b → suc a + (b - suc a) ≡ b
+    parts a b lt = omega (arith, lt)
 
--- so they are what the record of the next rank asks for
-pub kept-lower : (full : AllRecords) (means : List ℕ) (spreads plays : List (List ℕ)) →
-    AreKept full means spreads plays →
-    AreLower full means
-    (λ r. slice_index_or spreads (r - (length means - length spreads)) [])
-    (length means - length spreads)
-kept-lower full means spreads plays kept = record {
-  means_are = kept.means_are;
-  shares_are = λ r from under. kept-shares full means spreads plays r kept from under;
-}
-
--- the bytes of a record whose plays are kept
-pub kept-bytes : (version : Version) (full : AllRecords) (means : List ℕ)
-    (spreads plays : List (List ℕ)) → AreKept full means spreads plays
-    → (p index place mean : ℕ) (shares : List ℕ) → index < length plays →
-    place ≡ length means - length plays + index
-    → pips (at_rank (length means - length plays + index)) ≡ p
-    → mean ≡ slice_index means place → shares ≡ shares_of_rank full place
-    → record_of version p mean (get_or plays index []) shares
-    ≡ bytes_of_rank version full (length means - length plays + index)
-kept-bytes version full means spreads plays kept p index place mean shares lt e pips_is mean_is
-    shares_is =
-    let held : place < length means = omega (arith, kept.plays_few) in
-    let rank : ℕ = length means - length plays + index in
-    let m = mean_is ∙ (kept.means_are place held ∙ ap (mean_of_rank full) e) in
-    let s = shares_is ∙ ap (shares_of_rank full) e in
-    ap (λ (q : ℕ). record_of version q mean (get_or plays index []) shares) (sym pips_is)
-    ∙ (ap (λ (m : ℕ). record_of version (pips (at_rank rank)) m (get_or plays index []) shares) m
-    ∙ (ap
-    (λ (ps : List ℕ).
-    record_of version (pips (at_rank rank)) (mean_of_rank full rank) ps shares)
-    (kept.plays_are index lt)
-    ∙ ap
-    (λ (xs : List ℕ).
-    record_of version (pips (at_rank rank)) (mean_of_rank full rank)
-    (plays_of_rank full rank) xs) s))
-
--- .. and no share of it is lost
-pub kept-held : (version : Version) (full : AllRecords) (r p : ℕ) (shares : List ℕ) →
-    r < count_to 58 → pips (at_rank r) ≡ p → shares ≡ shares_of_rank full r →
-    IsHeld version p shares
-kept-held version full r p shares lt pips_is shares_is =
-    subst (λ (xs : List ℕ). IsHeld version p xs) (sym shares_is)
-    (subst (λ (q : ℕ). IsHeld version q (shares_of_rank full r)) pips_is
-    (held full.means full.spreads (at_rank r) (mean_of_rank full r) (plays_of_rank full r)
-    (shares_of_rank full r) (at_rank_position r) (full.made.made r lt) (full.made.reached r lt)
-    version))
+    same : (a b : ℕ) → a ≤ b → b ≤ a → a ≡ b
+    same a b le last = omega (arith, le, last)

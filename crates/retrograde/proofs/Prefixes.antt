@@ -1,8 +1,8 @@
 -- What was written of the built file, part by part.
-use Rattle.std.proofs.Common.{◌≡◌, ℕ, ◌+◌, ◌-◌, ◌≤◌, List, [], Option, Result, Ok, Err, sym, subst, arith}
+use Rattle.std.proofs.Common.{◌≡◌, ℕ, ◌-◌, ◌≤◌, List, [], Option, Result, Ok, Err, sym, subst, arith}
 use Rattle.std.specs.Io.KnownBytes.{Appends}
 use Rattle.std.specs.Result.{IsErrAnd}
-use Rattle.race_model.specs.Ranks.{count_to}
+use Rattle.race_model.specs.Ranks.{first_of, count_to}
 use Rattle.race_model.specs.Versions.{Version, greatest_bound}
 use Rattle.race_model.specs.Files.{header}
 use Rattle.race_model.proofs.Ranks.RankOrder.{count_to-rises}
@@ -13,6 +13,7 @@ use Rattle.retrograde.specs.AllRecords.{AllRecords, bytes_of_rank}
 use Rattle.retrograde.specs.BuiltBytes.{built_to, built_file, WritesBuilt, WritesPart, IsRefusedBy, Builds}
 use Rattle.retrograde.specs.declared.build_fault.BuildFault.{BuildFault}
 use Rattle.retrograde.proofs.BuiltFiles.{is-built}
+use Rattle.retrograde.proofs.Levels.{level-end, level-all}
 
 -- a build that a fault ends has written what that fault says
 pub refused_build : {T : Type 0} (version : Version) (bound : ℕ) (old new : Option (List ℕ))
@@ -52,32 +53,28 @@ module _ (version : Version) (full : AllRecords) (bound : ℕ)
       part-refused old new
       (ranks-part version bound (bytes_of_rank version full) (count_to bound) old new n le all)
 
-  -- .. and a prefix of the level after it, of `count` positions
-  pub level-part : (old mid new : Option (List ℕ)) (pips before made count : ℕ) → pips ≤ bound
-      → before + count ≡ made → made ≡ count_to pips →
-      Appends old mid (built_to version full bound before) →
-      AppendsPart mid new (records_from (bytes_of_rank version full) (made - count) count)
+  -- .. and a prefix of the level after it
+  pub level-part : (old mid new : Option (List ℕ)) (p : ℕ) → p ≤ bound →
+      Appends old mid (built_to version full bound (first_of p)) →
+      AppendsPart mid new
+      (records_from (bytes_of_rank version full) (first_of p) (count_to p - first_of p))
       → WritesPart version bound old new
-  level-part old mid new pips before made count le all to first part =
-      let here : made - count ≡ before = omega arith in
+  level-part old mid new p le first part =
       part-refused old new
-      (more-part version bound (bytes_of_rank version full) (count_to bound) old mid new before
-      count (omega (arith, count_to-rises pips bound le)) first
-      (subst (λ (n : ℕ). AppendsPart mid new (records_from (bytes_of_rank version full) n count))
-      here part))
+      (more-part version bound (bytes_of_rank version full) (count_to bound) old mid new
+      (first_of p) (count_to p - first_of p)
+      (omega (arith, level-end p, count_to-rises p bound le)) first part)
 
   -- .. or the whole of it
-  pub level-written : (old mid new : Option (List ℕ)) (before made count : ℕ)
-      → before + count ≡ made →
-      Appends old mid (built_to version full bound before) →
-      Appends mid new (records_from (bytes_of_rank version full) (made - count) count)
-      → Appends old new (built_to version full bound made)
-  level-written old mid new before made count all first more =
-      let here : made - count ≡ before = omega arith in
-      subst (λ (n : ℕ). Appends old new (built_to version full bound n)) all
-      (more-written version bound (bytes_of_rank version full) old mid new before count first
-      (subst (λ (n : ℕ). Appends mid new (records_from (bytes_of_rank version full) n count))
-      here more))
+  pub level-written : (old mid new : Option (List ℕ)) (p : ℕ) →
+      Appends old mid (built_to version full bound (first_of p)) →
+      Appends mid new
+      (records_from (bytes_of_rank version full) (first_of p) (count_to p - first_of p))
+      → Appends old new (built_to version full bound (count_to p))
+  level-written old mid new p first more =
+      subst (λ (n : ℕ). Appends old new (built_to version full bound n)) (level-all p)
+      (more-written version bound (bytes_of_rank version full) old mid new (first_of p)
+      (count_to p - first_of p) first more)
 
   -- the whole file, and nothing else
   pub all-written : (old new : Option (List ℕ)) (n : ℕ) → n ≡ count_to bound →

@@ -1,18 +1,16 @@
 -- The record of a position follows from those of lower rank: whoever makes it makes this one.
-use Rattle.std.proofs.Common.{◌≡◌, ◌⊎◌, ⊎_elim, ℕ, zero, suc, ◌+◌, ◌-◌, ◌*◌, ◌%◌, ◌<◌, ◌≤◌, List, length, sum_by}
+use Rattle.std.proofs.Common.{◌≡◌, ◌⊎◌, ⊎_elim, ℕ, zero, suc, ◌+◌, ◌*◌, ◌%◌, ◌<◌, ◌≤◌, List, length, sum_by}
 use Rattle.std.proofs.Common.{refl, sym, ap, subst, ◌∙◌, arith, ext_get_or}
 use Rattle.std.proofs.lemmas.List.{get_or_past}
 use Rattle.std.specs.Prelude.{slice_index}
 use Rattle.race_model.specs.Positions.{Board, IsPosition, IsFinished, pips}
 use Rattle.race_model.specs.Dice.{Throw, all_rolls, roll_at, roll_index, weight}
 use Rattle.race_model.specs.Plays.{Legal}
-use Rattle.race_model.specs.Ranks.{rank, first_of, count_to}
+use Rattle.race_model.specs.Ranks.{rank, count_to}
 use Rattle.race_model.specs.Horizon.{most_rolls}
 use Rattle.race_model.specs.LocalEquations.{whole}
-use Rattle.race_model.proofs.Plays.Results.{legal_position}
-use Rattle.race_model.proofs.Plays.Spent.{legal_takes}
 use Rattle.race_model.proofs.Ranks.BestPlays.{best-agree, legal_lower}
-use Rattle.race_model.proofs.Ranks.RankOrder.{rank_bound, at_rank-rank, rank_within, first_of-rises}
+use Rattle.race_model.proofs.Ranks.RankOrder.{rank_bound, at_rank-rank}
 use Rattle.race_model.proofs.Strategies.Horizons.{within_22, most_rolls-most}
 use Rattle.race_model.proofs.Numbers.Sums.{sum_by-equal}
 use Rattle.race_model.proofs.Dice.RollSums.{roll_index-range}
@@ -148,17 +146,6 @@ module _ (full : AllRecords) (x : Board) (at : IsPosition x) (low : pips x ≤ 5
     plays-held i lt =
         let leads = (best i lt).reached in
         omega (arith, results-held (roll_at i) leads.0 leads.1, leads.2)
-
-    -- .. of the last 24 levels
-    pub plays-recent : (i : ℕ) → i < 21 → first_of (pips x - 24) ≤ slice_index plays i
-    plays-recent i lt =
-        let leads = (best i lt).reached in
-        let z = leads.0 in
-        let takes = legal_takes x (roll_at i) z leads.1 in
-        let within = (rank_within z (legal_position x (roll_at i) z at leads.1)).0 in
-        let rises = first_of-rises (pips x - 24) (pips z) (omega arith) in
-        let is = leads.2 in
-        omega arith
 
     -- the mean can be pulled, and is that of the rank
     mean-is : 36 * mean_of_rank full (rank x) ≡ 36 * whole + sum_of_means full.means plays

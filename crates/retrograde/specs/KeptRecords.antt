@@ -1,28 +1,37 @@
--- What a build keeps of the records that it has made, by rank: all
--- means, the shares of the last ranks, and the plays of the last ones.
-use Rattle.std.specs.Prelude.{◌≡◌, ℕ, ◌+◌, ◌-◌, ◌<◌, ◌≤◌, List, [], length, slice_index, slice_index_or}
+-- What a build keeps of the records that it has made, by rank: all means, and all shares, in a room
+-- with the places where those of each rank begin. Source: this project's profile.
+use Rattle.std.specs.Prelude.{◌≡◌, ℕ, ◌+◌, ◌-◌, ◌*◌, ◌<◌, ◌≤◌, List, length, slice_index}
+use Rattle.race_model.specs.Ranks.{first_of, count_to}
+use Rattle.race_model.specs.Versions.{Version}
+use Rattle.race_model.specs.Horizon.{most_rolls}
+use Rattle.race_model.specs.Files.{record_place}
 use Rattle.retrograde.specs.AllRecords.{AllRecords, mean_of_rank, plays_of_rank, shares_of_rank}
+use Rattle.retrograde.specs.KeptShares.{ArePlaces, shares_kept}
 
--- each stands in the record of its rank: the last shares
--- and the last plays are those of the last rank
-pub record AreKept (full : AllRecords) (means : List ℕ) (spreads plays : List (List ℕ)) : Type 0
-  where
-    pub means_are : (r : ℕ) → r < length means → slice_index means r ≡ mean_of_rank full r
-    pub spreads_few : length spreads ≤ length means
-    pub spreads_are : (i : ℕ) → i < length spreads →
-        slice_index_or spreads i [] ≡ shares_of_rank full (length means - length spreads + i)
-    pub plays_few : length plays ≤ length means
-    pub plays_are : (i : ℕ) → i < length plays →
-        slice_index_or plays i [] ≡ plays_of_rank full (length means - length plays + i)
+-- the means and the shares of the first n ranks are those of their records
+pub record AreKept (n : ℕ) (means places shares : List ℕ) : Type 0 where
+  pub means_are : (full : AllRecords) (r : ℕ) → r < n →
+      slice_index means r ≡ mean_of_rank full r
+  pub shares_are : (full : AllRecords) (r : ℕ) → r < n →
+      shares_kept shares places r ≡ shares_of_rank full r
+  pub placed : ArePlaces places n (length shares)
+  pub small : slice_index places n ≤ 368 * n
+
+-- the bytes in which the shares of a pip count are kept
+abbrev pub level_shares : ℕ → ℕ
+level_shares p = (count_to p - first_of p) * (16 * (most_rolls p + 1))
+
+-- there is room for the records of a pip count: for its means, its places and its shares behind
+-- those of fewer pips, and for just its bytes in a file of a version
+pub record HasRoom (version : Version) (p : ℕ) (means places shares level : List ℕ) : Type 0 where
+  pub for_means : count_to p ≤ length means
+  pub for_places : count_to p < length places
+  pub for_shares : slice_index places (first_of p) + level_shares p ≤ length shares
+  pub for_bytes : record_place version (first_of p) + length level
+      ≡ record_place version (count_to p)
 
 -- this is the record of a rank
 pub record IsRecordOfRank (full : AllRecords) (r mean : ℕ) (plays shares : List ℕ) : Type 0 where
   pub mean_is : mean ≡ mean_of_rank full r
   pub plays_are : plays ≡ plays_of_rank full r
   pub shares_are : shares ≡ shares_of_rank full r
-
--- the means of lower ranks, and the shares of those from one on, stand in the records of these
-pub record AreLower (full : AllRecords) (means : List ℕ) (shares : ℕ → List ℕ) (first : ℕ)
-    : Type 0 where
-  pub means_are : (r : ℕ) → r < length means → slice_index means r ≡ mean_of_rank full r
-  pub shares_are : (r : ℕ) → first ≤ r → r < length means → shares r ≡ shares_of_rank full r

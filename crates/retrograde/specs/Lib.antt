@@ -2,7 +2,6 @@ pub mod AllRecords
 pub mod BuiltBytes
 pub mod BuiltRecords
 pub mod KeptRecords
-pub mod RecordBytes
 pub mod KeptShares
 pub mod UsualVersion
 pub mod NextBoardRecord

@@ -1,8 +1,9 @@
 //! Why a build is refused.
 ghost use Rattle.std.specs.Prelude.{◌≡◌};
-ghost use Rattle.retrograde.specs.declared.build_fault.BuildFault.TheVariants.{Write};
+ghost use Rattle.retrograde.specs.declared.build_fault.BuildFault.TheVariants.{Memory, Write};
 
 use db_layout::WriteFault;
+use std::alloc::AllocError;
 use thiserror::Error;
 
 /// Why a build is refused.
@@ -26,5 +27,13 @@ impl From<WriteFault> for BuildFault {
 
     fn from(_fault: WriteFault) -> Self {
         BuildFault::Write
+    }
+}
+
+impl From<AllocError> for BuildFault {
+    ghost from_gives = { λ _ fault. fault ≡ Memory };
+
+    fn from(_error: AllocError) -> Self {
+        BuildFault::Memory
     }
 }

@@ -5,12 +5,9 @@ ghost use Rattle.std.specs.Prelude.{IsSome, IfSome, IfNone};
 ghost use Rattle.race_model.specs.Versions.{version_by};
 ghost use Rattle.race_model.specs.Files.{record_place};
 ghost use Rattle.race_model.specs.BuiltFile.{IsBuilt};
-ghost use Rattle.retrograde.specs.RecordBytes.{record_by};
 
-use crate::kept_shares::{KeptRecords, keep};
-use crate::made_record::MadeRecord;
-use crate::pulling::next_record;
-use db_layout::{HEADER_BYTES, Header, header_bytes, most_rolls, record_bytes};
+use crate::level::{add_level, level_place};
+use db_layout::{HEADER_BYTES, Header, header_bytes};
 use fixed_fraction::Scaled;
 use least_plays::{LeastPlays, ROWS_TO_8, ROWS_TO_90};
 use ranking::Ranks;
@@ -74,34 +71,17 @@ fn fill<const ROWS: usize, const PLACES: usize>(header: &Header, work: &mut [u8]
     let mut least: LeastPlays<ROWS> = LeastPlays::new();
     let mut means = [Scaled::ZERO; PLACES];
     let mut places = [0; PLACES];
-    for rank in 0..header.count {
-        let index = usize::from(rank);
-        let position = ranks.unrank(rank).unwrap();
-        let lower = KeptRecords {
-            means: &means[..index],
-            places: &places,
-            room: work,
-        };
-        let made = next_record(&ranks, &position, &lower, &mut least);
-        means[index] = made.mean;
-        let end = most_rolls(position.pips()) + 1;
-        keep(work, &mut places, rank, end, &made.spread);
-        put_record(header, rank, &made, room);
+    for pips in 0..header.bound + 1 {
+        let (start, end) = level_place(header, &ranks, pips);
+        add_level(
+            header,
+            pips,
+            &ranks,
+            &mut least,
+            &mut means,
+            &mut places,
+            work,
+            &mut room[start..end],
+        );
     }
-}
-
-/// Writes the record of a rank where it stands.
-fn put_record(header: &Header, rank: u16, made: &MadeRecord, room: &mut [u8])
-    requires rank { rank < header.now.count }
-    requires room { record_place (version_by header.now.version) rank
-        + length (record_by (version_by header.now.version) rank made.now) ≤ length room.old }
-    ensures { room.new ≡ take (record_place (version_by header.now.version) rank) room.old
-        ++ (record_by (version_by header.now.version) rank made.now
-        ++ drop (record_place (version_by header.now.version) rank
-        + length (record_by (version_by header.now.version) rank made.now)) room.old) }
-{
-    let place = header.find(rank);
-    let start = place.offset as usize;
-    let bytes = record_bytes(header, place.pips, made.mean, &made.plays, &made.spread);
-    room[start..start + bytes.len()].copy_from_slice(bytes.as_slice());
 }

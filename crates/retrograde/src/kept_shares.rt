@@ -7,7 +7,6 @@ ghost use Rattle.race_model.specs.LocalEquations.{whole};
 ghost use Rattle.race_model.specs.Files.{bytes_at};
 ghost use Rattle.retrograde.specs.KeptShares.{shares_in, shares_kept, ArePlaces};
 
-use crate::lower::LowerRecords;
 use fixed_fraction::{Distribution, Scaled, Spread};
 
 /// The shares of a record: those of fewer than `end` rolls, in 16 bytes each. There is none beyond
@@ -62,21 +61,22 @@ pub(crate) struct KeptRecords<'a> {
         sum (shares_kept room.now places.now r) ≡ whole },
 }
 
-impl<'a> LowerRecords for KeptRecords<'a> {
-    type Spread = KeptSpread<'a>;
-
-    ghost means = { λ records. records.means.now };
-
-    ghost shares = { λ records. shares_kept records.room.now records.places.now };
-
-    ghost first = { λ _. 0 };
-
-    fn mean(&self, rank: u16) -> Scaled {
+impl<'a> KeptRecords<'a> {
+    /// The mean of a rank.
+    pub fn mean(&self, rank: u16) -> Scaled
+        requires { rank < length self.now.means.now }
+        ensures { result ≡ slice_index self.now.means.now rank }
+    {
         self.means[usize::from(rank)]
     }
 
+    /// The shares of a rank.
     #[inline(always)]
-    fn spread(&self, rank: u16) -> KeptSpread<'a> {
+    pub fn spread(&self, rank: u16) -> KeptSpread<'a>
+        requires made { rank < length self.now.means.now }
+        ensures { shares_in result.bytes.now
+            ≡ shares_kept self.now.room.now self.now.places.now rank }
+    {
         let index = usize::from(rank);
         let start = self.places[index] as usize;
         let end = self.places[index + 1] as usize;
@@ -86,18 +86,24 @@ impl<'a> LowerRecords for KeptRecords<'a> {
     }
 }
 
+/// The means of lower ranks are what the best plays go by.
+impl<'a> least_plays::RankedMeans for KeptRecords<'a> {
+    ghost mean = { λ records. slice_index records.means.now };
+
+    ghost count = { λ records. length records.means.now };
+
+    #[inline(always)]
+    fn is_less(&self, one: u16, other: u16) -> bool {
+        self.mean(one).numerator() < self.mean(other).numerator()
+    }
+}
+
 /// Keeps the shares of the next rank, which are those of fewer than `end` rolls.
 #[inline(always)]
-pub(crate) fn keep<const COUNT: usize>(
-    room: &mut [u8],
-    places: &mut [u32; COUNT],
-    rank: u16,
-    end: u8,
-    spread: &Spread,
-)
+pub(crate) fn keep(room: &mut [u8], places: &mut [u32], rank: u16, end: u8, spread: &Spread)
     requires placed { ArePlaces places.old rank (length room.old) }
     requires few { end ≤ 23 }
-    requires more { rank + 1 < COUNT }
+    requires more { rank + 1 < length places.old }
     requires small { slice_index places.old rank + 16 * end < 2 ^ 32 }
     requires fits { slice_index places.old rank + 16 * end ≤ length room.old }
     requires none { (k : ℕ) → end ≤ k → slice_index spread.now k ≡ 0 }
@@ -107,7 +113,7 @@ pub(crate) fn keep<const COUNT: usize>(
     ensures placed { ArePlaces places.new (rank + 1) (length room.new) }
     ensures next { slice_index places.new (rank + 1) ≡ slice_index places.old rank + 16 * end }
     ensures room { length room.new ≡ length room.old }
-    ensures places { length places.new ≡ COUNT }
+    ensures places { length places.new ≡ length places.old }
 {
     let _start = spread.at(0);
     let index = usize::from(rank);

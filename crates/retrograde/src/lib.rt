@@ -24,7 +24,7 @@ pub mod building;
 pub mod in_room;
 mod kept_shares;
 pub mod laws;
-mod lower;
+mod level;
 mod made_record;
 pub mod means;
 pub mod plays;

@@ -1,6 +1,6 @@
 //! The means of the first ranks, in memory that grows.
 ghost use Rattle.std.specs.Prelude.{◌≡◌, ℕ, ◌<◌, ◌≤◌, ◌↔◌, List, [], ◌∷◌, ◌++◌, length};
-ghost use Rattle.std.specs.Prelude.{slice_index, IsSome, IfSome, IfOk, IsErr, OnOk, OnErr, IfErr};
+ghost use Rattle.std.specs.Prelude.{slice_index, IsSome, IfSome, OnOk, OnErr, IfErr};
 ghost use Rattle.retrograde.specs.declared.build_fault.BuildFault.TheVariants.{Memory};
 
 use crate::build_fault::BuildFault;
@@ -34,17 +34,6 @@ impl Means {
         }
     }
 
-    /// No mean yet, and room for so many.
-    pub(crate) fn with_room(alloc: Global, count: usize) -> Result<Self, BuildFault>
-        ensures none { IfOk result (λ means. means ≡ []) }
-        ensures memory { IfErr result (λ fault. fault ≡ Memory) }
-    {
-        match Vec::with_capacity(alloc, count) {
-            Ok(means) => Ok(Means { means }),
-            Err(_) => Err(BuildFault::Memory),
-        }
-    }
-
     /// Adds the mean of the next rank. Refused only for want of memory, and then nothing is
     /// added.
     pub fn push(&mut self, mean: Scaled) -> Result<(), BuildFault>
@@ -64,30 +53,10 @@ impl Means {
         self.means.get(usize::from(rank)).copied()
     }
 
-    /// The mean of a rank below `len`, without a test.
-    pub(crate) fn at(&self, rank: u16) -> Scaled
-        requires { rank < length self.now }
-        ensures { result ≡ slice_index self.now rank }
-    {
-        self.means[usize::from(rank)]
-    }
-
     /// How many means there are: the ranks below it have one.
     pub fn len(&self) -> u16
         ensures { result ≡ length self.now }
     {
         self.means.len() as u16
-    }
-}
-
-/// The means that were added: they are what the best plays go by.
-impl least_plays::RankedMeans for Means {
-    ghost mean = { λ means. slice_index means };
-
-    ghost count = { λ means. length means };
-
-    #[inline(always)]
-    fn is_less(&self, one: u16, other: u16) -> bool {
-        self.at(one).numerator() < self.at(other).numerator()
     }
 }

@@ -1,18 +1,15 @@
 //! The record of a position from the records of lower rank.
-ghost use Rattle.std.specs.Prelude.{◌≡◌, ℕ, suc, ◌+◌, ◌-◌, ◌*◌, ◌<◌, ◌≤◌, List, length, slice_index};
-ghost use Rattle.std.specs.Mem.{type_size};
+ghost use Rattle.std.specs.Prelude.{◌≡◌, ℕ, suc, ◌<◌, ◌≤◌, length, slice_index};
 ghost use Rattle.race_model.specs.Positions.{IsPosition, pips};
-ghost use Rattle.race_model.specs.Dice.{Throw, roll_at};
-ghost use Rattle.race_model.specs.Plays.{Legal};
-ghost use Rattle.race_model.specs.Ranks.{rank as rank_of, first_of};
+ghost use Rattle.race_model.specs.Dice.{roll_at};
+ghost use Rattle.race_model.specs.Ranks.{rank as rank_of};
 ghost use Rattle.race_model.specs.LocalEquations.{whole};
-ghost use Rattle.least_plays.specs.Known.{HasRows, Knows};
-ghost use Rattle.retrograde.specs.AllRecords.{AllRecords, mean_of_rank, shares_of_rank};
+ghost use Rattle.retrograde.specs.AllRecords.{AllRecords, shares_of_rank};
 ghost use Rattle.race_model.specs.BestPlays.{IsBestPlay};
 ghost use Rattle.retrograde.specs.BuiltRecords.{sum_of_means, sum_of_shares};
-ghost use Rattle.retrograde.specs.KeptRecords.{AreLower, IsRecordOfRank};
+ghost use Rattle.retrograde.specs.KeptRecords.{AreKept, IsRecordOfRank};
 
-use crate::lower::{LowerRecords, MeansOf};
+use crate::kept_shares::KeptRecords;
 use crate::made_record::MadeRecord;
 use db_layout::most_rolls;
 use fixed_fraction::{Scaled, Spread, Sums};
@@ -20,29 +17,25 @@ use home_board::Position;
 use least_plays::LeastPlays;
 use ranking::Ranks;
 
-/// The record of the position of the next rank. The plays of the one after it can be found then.
+/// The record of the position of the next rank, whose best plays these are.
 #[inline(always)]
-pub(crate) fn next_record<L: LowerRecords, const ROWS: usize>(
-    ranks: &Ranks,
+pub(crate) fn next_record(
     position: &Position,
-    records: &L,
-    least: &mut LeastPlays<ROWS>,
+    plays: [u16; 21],
+    records: &KeptRecords<'_>,
 ) -> MadeRecord
-    ghost full: { AllRecords }
-    requires small { type_size L.Spread.row ≤ 64 }
     requires position { IsPosition position.now }
     requires low { pips position.now ≤ 58 }
-    requires lower { AreLower full (L.means records.now) (L.shares records.now)
-        (L.first records.now) }
-    requires next { rank_of position.now ≡ length (L.means records.now) }
-    requires recent { L.first records.now ≤ first_of (pips position.now - 24) }
-    requires known { Knows (mean_of_rank full) least.old (rank_of position.now) }
-    requires rows { HasRows ROWS (rank_of position.now) }
-    ensures record_is { IsRecordOfRank full (rank_of position.now) result.mean result.plays
-        result.spread }
-    ensures known { Knows (mean_of_rank full) least.new (rank_of position.now + 1) }
+    requires lower { AreKept (length records.now.means.now) records.now.means.now
+        records.now.places.now records.now.room.now }
+    requires next { rank_of position.now ≡ length records.now.means.now }
+    requires best { (i : ℕ) → i < 21 →
+        IsBestPlay (slice_index records.now.means.now) position.now (roll_at i)
+        (slice_index plays i) }
+    requires len { length plays ≡ 21 }
+    ensures { (full : AllRecords) →
+        IsRecordOfRank full (rank_of position.now) result.mean result.plays result.spread }
 {
-    let plays = best_plays(ranks, position, records, least);
     if position.is_finished() {
         return finished_record();
     }
@@ -78,43 +71,18 @@ fn finished_record() -> MadeRecord
     }
 }
 
-/// The best plays with the 21 rolls, by the means of lower ranks.
-fn best_plays<L: LowerRecords, const ROWS: usize>(
-    ranks: &Ranks,
-    position: &Position,
-    records: &L,
-    least: &mut LeastPlays<ROWS>,
-) -> [u16; 21]
-    ghost full: { AllRecords }
-    requires agree { (r : ℕ) → r < length (L.means records.now) →
-        slice_index (L.means records.now) r ≡ mean_of_rank full r }
-    requires next { rank_of position.now ≡ length (L.means records.now) }
-    requires known { Knows (mean_of_rank full) least.old (rank_of position.now) }
-    requires rows { HasRows ROWS (rank_of position.now) }
-    ensures known { Knows (mean_of_rank full) least.new (rank_of position.now + 1) }
-    ensures best { (i : ℕ) → i < 21 →
-        IsBestPlay (slice_index (L.means records.now)) position.now (roll_at i)
-        (slice_index result i) }
-    ensures len { length result ≡ 21 }
-{
-    least.advance(ranks, position, &MeansOf { records })
-}
-
 /// The means and the shares that the rolls play to, added up with the weights of the rolls. There
 /// is no share of so many rolls or more.
 #[inline(always)]
-fn sums_of<L: LowerRecords>(records: &L, plays: &[u16; 21], rolls: u8) -> Sums
-    ghost full: { AllRecords }
-    requires lower { AreLower full (L.means records.now) (L.shares records.now)
-        (L.first records.now) }
-    requires small { type_size L.Spread.row ≤ 64 }
-    requires made { (i : ℕ) → i < 21 → slice_index plays.now i < length (L.means records.now) }
-    requires recent { (i : ℕ) → i < 21 → L.first records.now ≤ slice_index plays.now i }
+fn sums_of(records: &KeptRecords<'_>, plays: &[u16; 21], rolls: u8) -> Sums
+    requires lower { AreKept (length records.now.means.now) records.now.means.now
+        records.now.places.now records.now.room.now }
+    requires made { (i : ℕ) → i < 21 → slice_index plays.now i < length records.now.means.now }
     requires few { rolls ≤ 23 }
-    requires beyond { (i k : ℕ) → i < 21 → rolls ≤ k →
+    requires beyond { (full : AllRecords) (i k : ℕ) → i < 21 → rolls ≤ k →
         slice_index (shares_of_rank full (slice_index plays.now i)) k ≡ 0 }
-    ensures mean { result.mean ≡ sum_of_means full.means plays.now }
-    ensures shares { (k : ℕ) → k < 23 →
+    ensures mean { (full : AllRecords) → result.mean ≡ sum_of_means full.means plays.now }
+    ensures shares { (full : AllRecords) (k : ℕ) → k < 23 →
         slice_index result.shares k ≡ sum_of_shares full.spreads plays.now k }
 {
     let mut means = [Scaled::ZERO; 21];

@@ -1,15 +1,13 @@
 //! A build that has all its memory before it writes.
-ghost use Rattle.std.specs.Prelude.{◌≡◌, ℕ, ◌+◌, ◌-◌, ◌<◌, ◌≤◌, ◌↔◌, ◌⊎◌, Err, IfOk, IfErr};
-ghost use Rattle.race_model.specs.Ranks.{first_of, count_to};
+ghost use Rattle.std.specs.Prelude.{◌≡◌, ◌<◌, ◌↔◌, ◌⊎◌, Err, IfOk, IfErr};
 ghost use Rattle.retrograde.specs.BuiltBytes.{Builds};
 ghost use Rattle.retrograde.specs.UsualVersion.{usual_version};
 ghost use Rattle.retrograde.specs.declared.build_fault.BuildFault.TheVariants.{OverBound, Memory};
 
 use crate::build_fault::BuildFault;
-use crate::building::{MOST_PIPS_OF_A_ROLL, build_records, usual_version};
+use crate::building::{build_records, usual_version};
 use crate::records::Records;
 use db_layout::Header;
-use ranking::Ranks;
 use std::alloc::Global;
 use std::io::Write;
 use std::marker::Model;
@@ -32,8 +30,7 @@ impl Model for ReadyBuild {
 
     ghost view = { λ ready. ready.header.bound };
 
-    ghost invariant = { λ ready. (ready.records.means ≡ [])
-        × (ready.records.spreads.items ≡ []) × (ready.records.plays.items ≡ [])
+    ghost invariant = { λ ready. (ready.records.places.items ≡ [])
         × (version_by ready.header.version ≡ usual_version ready.header.bound) };
 }
 
@@ -48,13 +45,7 @@ impl ReadyBuild {
         let Some(header) = Header::new(usual_version(bound), bound) else {
             return Err(BuildFault::OverBound);
         };
-        let ranks = Ranks::new();
-        let records = Records::with_room(
-            alloc,
-            usize::from(header.count),
-            most_kept(&ranks, bound, MOST_PIPS_OF_A_ROLL),
-            most_kept(&ranks, bound, 0),
-        )?;
+        let records = Records::with_room(alloc, &header)?;
         Ok(ReadyBuild { records, header })
     }
 
@@ -71,16 +62,4 @@ impl ReadyBuild {
         } = self;
         build_records(&mut records, header, writer)
     }
-}
-
-/// The most positions of a pip count to a bound, and of so many below it.
-fn most_kept(ranks: &Ranks, bound: u8, below: u8) -> usize
-    ensures { (p : ℕ) → p ≤ bound → count_to p ≤ first_of (p - below) + result }
-{
-    let mut most = 0;
-    for pips in 0..=bound {
-        let first = ranks.first_of(pips.saturating_sub(below));
-        most = most.max(ranks.count_to(pips).saturating_sub(first));
-    }
-    usize::from(most)
 }

@@ -5,12 +5,11 @@ use Rattle.std.specs.Prelude.{slice_index, slice_set}
 use Rattle.std.specs.Int.{w128, from_le_bytes}
 use Rattle.race_model.specs.Files.{bytes_at}
 use Rattle.retrograde.proofs.KeptShares.{kept-are, kept-agree}
-use Rattle.retrograde.proofs.kept_shares.keep.Given.{Over}
 use Rattle.retrograde.proofs.kept_shares.keep.Goals.{After-put_shares}
 use Rattle.retrograde.proofs.kept_shares.keep.Goals as goal
 
 -- where the next rank's shares begin
-module _ (g : Over) (c : After-put_shares g) (next : ℕ) where
+module _ (c : After-put_shares) (next : ℕ) where
   abbrev places : List ℕ
   places = slice_set c.args.places.now (c.from-index.result + 1) next
 
@@ -25,19 +24,19 @@ module _ (g : Over) (c : After-put_shares g) (next : ℕ) where
   at_next =
       ap (λ r. slice_index places (r + 1)) (sym c.from-index.ensures)
       ∙ get_or-set_same c.args.places.now (c.from-index.result + 1) next 0
-      (omega (arith, c.told-places, c.requires.more, c.from-index.ensures))
+      (omega (arith, c.requires.more, c.from-index.ensures))
 
 pub returns-clause-kept : goal.returns-clause-kept
-returns-clause-kept g c =
-    let here = (goal.at.returns-clause-kept g c).After-put_shares in
+returns-clause-kept c =
+    let here = (goal.at.returns-clause-kept c).After-put_shares in
     let next = slice_index c.args.places.now c.from-index.result + 16 * c.from.result in
-    let start = stays g here next c.args.rank (omega arith) in
+    let start = stays here next c.args.rank (omega arith) in
     let from : slice_index c.args.places.now c.from-index.result
     ≡ slice_index c.args.places.now c.args.rank
     = ap (slice_index c.args.places.now) c.from-index.ensures in
-    kept-are c.put_shares.new.room (places g here next) c.args.rank c.args.end c.args.spread.now
+    kept-are c.put_shares.new.room (places here next) c.args.rank c.args.end c.args.spread.now
     c.at-start.ensures.len
-    (omega (arith, at_next g here next, start, from, c.from.ensures))
+    (omega (arith, at_next here next, start, from, c.from.ensures))
     (omega (arith, start, c.requires.fits, c.put_shares.ensures.len))
     (λ k under.
     ap (λ n. from_le_bytes w128 (bytes_at c.put_shares.new.room (n + 16 * k) 16))
@@ -46,14 +45,14 @@ returns-clause-kept g c =
     c.requires.none
 
 pub returns-clause-others : goal.returns-clause-others
-returns-clause-others g c r lt =
-    let here = (goal.at.returns-clause-others g c).After-put_shares in
+returns-clause-others c r lt =
+    let here = (goal.at.returns-clause-others c).After-put_shares in
     let next = slice_index c.args.places.now c.from-index.result + 16 * c.from.result in
     let from : slice_index c.args.places.now c.from-index.result
     ≡ slice_index c.args.places.now c.args.rank
     = ap (slice_index c.args.places.now) c.from-index.ensures in
-    kept-agree c.args.room.now c.put_shares.new.room c.args.places.now (places g here next) r
+    kept-agree c.args.room.now c.put_shares.new.room c.args.places.now (places here next) r
     (slice_index c.args.places.now c.from-index.result) c.put_shares.ensures.front
-    (stays g here next r (omega arith)) (stays g here next (r + 1) (omega arith))
+    (stays here next r (omega arith)) (stays here next (r + 1) (omega arith))
     (c.requires.placed.next r lt)
     (omega (arith, from, c.requires.placed.rise (r + 1) (omega (arith, lt))))

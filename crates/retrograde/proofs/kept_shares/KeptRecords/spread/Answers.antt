@@ -4,8 +4,8 @@ use Rattle.std.specs.Prelude.{slice_index}
 use Rattle.race_model.specs.Files.{bytes_at}
 use Rattle.race_model.proofs.RightFiles.Places.{length-bytes_at}
 use Rattle.retrograde.specs.KeptShares.{shares_in, shares_kept}
-use Rattle.retrograde.proofs.kept_shares.KeptRecordsLowerRecords.spread.Goals.{After-from-index}
-use Rattle.retrograde.proofs.kept_shares.KeptRecordsLowerRecords.spread.Goals as goal
+use Rattle.retrograde.proofs.kept_shares.KeptRecords.spread.Goals.{After-from-index}
+use Rattle.retrograde.proofs.kept_shares.KeptRecords.spread.Goals as goal
 
 -- what is between them
 same : (c : After-from-index) →
