@@ -125,13 +125,13 @@ fn fault_of_change(alloc: Global, place: u64) -> Result<Option<CheckFault>, Fail
 #[test]
 fn what_is_added_again_is_tested_again(rt: HostRuntime) -> Result<(), Fail> {
     let one = 32 + 426;
-    // a mean over 22 rolls, and a share of one roll over the whole
-    for place in [one, one + 58 + 16] {
+    // a mean over 22 rolls, a share of one roll over the whole, and one of 22 rolls
+    for place in [one, one + 58 + 16, one + 58 + 16 * 22] {
         let fault = fault_of_change(rt.alloc(), place)?;
         assert_eq!(rt; fault, Some(CheckFault::Read));
     }
-    // a share that no sum needs
-    let fault = fault_of_change(rt.alloc(), one + 58 + 16 * 22)?;
+    // a play, which no sum needs
+    let fault = fault_of_change(rt.alloc(), one + 16)?;
     assert_eq!(rt; fault, None);
     Ok(())
 }

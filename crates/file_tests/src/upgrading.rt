@@ -12,7 +12,7 @@ fn each_read_that_fails_once(rt: HostRuntime) -> Result<(), Fail> {
     for call in 1..200 {
         let table = failing(rt.alloc(), file.as_slice(), 1, call)?;
         match check(table) {
-            Err((_, fault)) => assert!(rt; fault == CheckFault::Read),
+            Err((_table, fault)) => assert!(rt; fault == CheckFault::Read),
             Ok(mut checked) => {
                 let mut written = Vec::new(rt.alloc());
                 if checked.upgrade(&mut written) == Err(UpgradeFault::Read) {
@@ -26,7 +26,8 @@ fn each_read_that_fails_once(rt: HostRuntime) -> Result<(), Fail> {
             }
         }
     }
-    assert_eq!(rt; failed, 7);
+    // of seven records the first is still there from the check
+    assert_eq!(rt; failed, 6);
     Ok(())
 }
 
