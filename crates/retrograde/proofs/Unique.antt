@@ -18,26 +18,9 @@ use Rattle.race_model.specs.BestPlays.{IsBestPlay}
 use Rattle.retrograde.specs.BuiltRecords.{shares_of, sum_of_means, sum_of_shares, IsMade, IsReached}
 use Rattle.retrograde.specs.AllRecords.{AllRecords, mean_of_rank, plays_of_rank, shares_of_rank}
 use Rattle.retrograde.specs.KeptRecords.{IsRecordOfRank}
-use Rattle.retrograde.proofs.Best.{finished-stays}
+use Rattle.retrograde.proofs.Best.{best-one, finished-stays}
 use Rattle.retrograde.proofs.Next.{ReachedBelow, can-pull_shares, play-lower, play-beyond}
 use Rattle.retrograde.proofs.Turns.{total-small}
-
--- a throw has one best play
-best-one : (means : List ℕ) (x : Board) (v : Throw) (r q : ℕ) →
-    IsBestPlay (slice_index means) x v r →
-    IsBestPlay (slice_index means) x v q → r ≡ q
-best-one means x v r q first second =
-    let there : slice_index means (rank second.reached.0) ≡ slice_index means q =
-    ap (slice_index means) second.reached.2 in
-    let here : slice_index means (rank first.reached.0) ≡ slice_index means r =
-    ap (slice_index means) first.reached.2 in
-    let a = first.least second.reached.0 second.reached.1 in
-    let b = second.least first.reached.0 first.reached.1 in
-    let low = first.lowest second.reached.0 second.reached.1 (omega arith) in
-    let high = second.lowest first.reached.0 first.reached.1 (omega arith) in
-    let at = second.reached.2 in
-    let of = first.reached.2 in
-    omega arith
 
 -- the best play by the means of the results is the best by all means
 best-by_all : (means others : List ℕ) (x : Board) (v : Throw) (r : ℕ)
@@ -138,7 +121,7 @@ module _ (full : AllRecords) (x : Board) (at : IsPosition x) (low : pips x ≤ 5
 
     pub plays-same : plays ≡ plays_of_rank full (rank x)
     plays-same = plays-are plays len
-        (λ i lt. best-one full.means x (roll_at i) (slice_index plays i)
+        (λ i lt. best-one (slice_index full.means) x (roll_at i) (slice_index plays i)
         (slice_index (plays_of_rank full (rank x)) i) (best-all i lt) (made.best i lt))
 
     -- they lead to ranks that are made

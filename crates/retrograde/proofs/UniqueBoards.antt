@@ -5,10 +5,9 @@ use Rattle.std.proofs.Math.Seq.{take-add}
 use Rattle.std.proofs.lemmas.Bool.{le-leb}
 use Rattle.std.proofs.lemmas.List.{take_all}
 use Rattle.race_model.specs.Positions.{Board, IsPosition, IsFinished, pips}
-use Rattle.race_model.specs.Dice.{Throw, roll_at}
+use Rattle.race_model.specs.Dice.{roll_at}
 use Rattle.race_model.specs.Ranks.{rank, at_rank, count_to}
 use Rattle.race_model.specs.Horizon.{most_rolls}
-use Rattle.race_model.specs.BestPlays.{IsBestPlay}
 use Rattle.race_model.specs.Files.{IsBytes}
 use Rattle.race_model.specs.Books.{play_in, recorded_in}
 use Rattle.race_model.specs.BoardFiles.{Parts, value_of_parts, board_header, board_length, board_place, board_record}
@@ -32,21 +31,8 @@ use Rattle.db_layout.proofs.SameRecords.{records-agree, mean_of-agree, count_at-
 use Rattle.db_layout.specs.LowerRecords.{board_mean}
 use Rattle.db_layout.proofs.Weighted.{weighted-by_index}
 use Rattle.retrograde.specs.BuiltBoards.{PlaysBest, IsBuiltTo, IsBuiltBoard}
+use Rattle.retrograde.proofs.Best.{best-one}
 use Rattle.retrograde.proofs.SameBytes.{records_same}
-
--- a throw has one best play
-best-one : (mean : ℕ → ℕ) (x : Board) (v : Throw) (r q : ℕ) → IsBestPlay mean x v r →
-    IsBestPlay mean x v q → r ≡ q
-best-one mean x v r q first second =
-    let there = ap mean second.reached.2 in
-    let here = ap mean first.reached.2 in
-    let a = first.least second.reached.0 second.reached.1 in
-    let b = second.least first.reached.0 first.reached.1 in
-    let low = first.lowest second.reached.0 second.reached.1 (omega arith) in
-    let high = second.lowest first.reached.0 first.reached.1 (omega arith) in
-    let at = second.reached.2 in
-    let of = first.reached.2 in
-    omega arith
 
 -- two parts of one number
 one_way : (a b : Parts) → a.lower < 36 ^ 11 → b.lower < 36 ^ 11 →

@@ -25,7 +25,6 @@ pub mod in_room;
 mod kept_shares;
 pub mod laws;
 mod level;
-mod made_record;
 pub mod means;
 pub mod plays;
 mod pulling;

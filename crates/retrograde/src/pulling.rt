@@ -10,12 +10,19 @@ ghost use Rattle.retrograde.specs.BuiltRecords.{sum_of_means, sum_of_shares};
 ghost use Rattle.retrograde.specs.KeptRecords.{AreKept, IsRecordOfRank};
 
 use crate::kept_shares::KeptRecords;
-use crate::made_record::MadeRecord;
 use db_layout::most_rolls;
 use fixed_fraction::{Scaled, Spread, Sums};
 use home_board::Position;
 use least_plays::LeastPlays;
 use ranking::Ranks;
+
+/// What is recorded for one position: its mean, the ranks that the rolls play to, and its shares.
+#[derive(Drop)]
+pub(crate) struct MadeRecord {
+    pub mean: Scaled,
+    pub plays: [u16; 21],
+    pub spread: Spread,
+}
 
 /// The record of the position of the next rank, whose best plays these are.
 #[inline(always)]
