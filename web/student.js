@@ -74,6 +74,7 @@ function themes({ themes: rows }) {
         h("td", {}, missed),
         h("td", {}, decimal(Math.round(lost / asked)), themeOf(name) ? "" : " pips"));
     return h("table", {},
+        h("caption", { class: "heard" }, "What was asked of each theme"),
         h("thead", {}, h("tr", {}, ["Theme", "asked", "missed", "lost each"]
             .map((name) => h("th", { scope: "col" }, name)))),
         h("tbody", {}, [true, false].flatMap((isPlay) =>

@@ -34,6 +34,7 @@ function ofClass({ results: text }, act) {
                     h("th", { scope: "row" }, name),
                     [answered, missed, decimal(lost)].map((cell) => h("td", {}, cell)))))),
             h("table", { class: "pupils questions" },
+                h("caption", {}, "Questions"),
                 h("thead", {}, h("tr", {}, ["Question", "missed", "What was played"].map((name) =>
                     h("th", { scope: "col" }, name)))),
                 h("tbody", {}, known.questions.map(({ place, count, played }) => h("tr", {},

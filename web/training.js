@@ -224,7 +224,7 @@ export function steering(state, making, act) {
                 : last ? afterLesson(state, isOpen, act)
                 : button("next step", "Next",
                     () => act.step(state.step + 1), { class: isOpen ? null : "first" }),
-            screen === "review" && (state.drill.due
+            screen === "review" && (state.drill.due || state.drill.list
                 ? button("finish", "Done", () => act.end(), { class: "first" })
                 : questions.length > 0 && button("another drill", "Another drill",
                     () => act.another(), { class: "first" }))),

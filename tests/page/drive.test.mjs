@@ -1678,6 +1678,19 @@ const PICTURED = [
         "#board .target"],
     ["editor", "#at=0,0,0,1,0,1&t=Two checkers&p=0,0,0,1,0,1&c=Four and six&p=3,0,0,0,0,0&c=Three on the ace point",
         '[data-key="draft begin"]', `document.querySelector('[data-key="draft begin"]').click()`, "#draft label"],
+    ["home", "", '[data-key="lesson 1"]', `document.querySelector('[data-key="all that is kept"]').click()`],
+    ["words", "#lesson=1", ".words summary", 'document.querySelector(".words summary").click()'],
+    ["review", "#list=2,2,2,2,2,2,31.0,0,0,1,0,1,52&ask=play", "#board .source", `(async () => {
+        while (!document.querySelector(".reviewed")) {
+            if (document.querySelector("#board .source")) document.querySelector(".plays button:last-child")?.click();
+            await new Promise((keep) => setTimeout(keep, 50));
+            document.querySelector('[data-key="next question"]')?.click();
+        }
+    })()`, ".reviewed .signs"],
+    ["teacher", "#teacher", '[data-key="sheet"]', `document.querySelector('[data-key="positions"]').value = "2,2,2,2,2,2 31\\n0,0,0,1,0,1 52"; document.querySelector('[data-key="sheet"]').click()`, ".key li"],
+    ["games", "#games", '[data-key="read match"]', `document.querySelector('[data-key="match text"]').value = ${JSON.stringify(
+        readFileSync(join(ROOT, "python/tests/matches/short.mat"), "utf8"))}; document.querySelector('[data-key="read match"]').click()`,
+        "body:has(#bar[hidden]) #games .reviewed li"],
     ["print", "#lesson=3", "#printed h2", "print"],
     ["embedded", "#view=board&at=7,4,2,0,0,0", ".figures", ""],
 ];
@@ -1707,7 +1720,7 @@ async function takePictures(browser) {
             await page.until(`document.body.dataset.ready && document.querySelector(${JSON.stringify(there)})`);
             if (act === "print") await page.send("Emulation.setEmulatedMedia", { media: "print" });
             else if (act) await page.value(act);
-            await page.until(`document.querySelector(${JSON.stringify(then)}) && !(document.querySelector("#numbers, #steering").textContent.includes("\u2026"))`);
+            await page.until(`document.querySelector(${JSON.stringify(then)}) && !(document.querySelector("#numbers, #steering")?.textContent.includes("\u2026"))`);
             await wait(200);
             await look(page, name);
             if (OF_DOCS[name]) {

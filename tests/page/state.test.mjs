@@ -11,9 +11,9 @@ import { moved, verdict } from "../../web/panels.js";
 import { asSvg } from "../../web/picture.js";
 import { pressed } from "../../web/state/board.js";
 import { received, wanted } from "../../web/state/database.js";
-import { isFar, measuredOf, missedOf, missKey, mistakesOf, modeOf, verdictOf } from "../../web/state/reads.js";
+import { isFar, measuredOf, missedOf, missKey, mistakesOf, modeOf, openedOf, verdictOf } from "../../web/state/reads.js";
 import { drillOfLesson, fittingLesson, lessonOfDrill, ROOMS } from "../../web/rooms.js";
-import { begin } from "../../web/state.js";
+import { begin, learntBetween } from "../../web/state.js";
 import { giveEstimate } from "../../web/state/training.js";
 import { drawQuestions, drillOf, mostOf, numbersFrom, kindsOf } from "../../web/questions.js";
 import { isNamed, LEVELS, levelsOf, positions, THEMES } from "../../web/themes.js";
@@ -2365,8 +2365,10 @@ async function screens() {
 
     part = "from home to the review, and Back";
     const used = await Used.open("", { lessons });
+    equal("nothing is heard of a position at home", used.text("said"), "");
     await used.clicked("today");
     const { questions } = used.session.state;
+    equal("beside the board", used.session.state.page, "board");
     equal("a question", [on(used), used.document.querySelectorAll(".bar-of span").length,
         used.document.querySelectorAll(".bar-of .now").length, used.document.querySelector("#coach .verdict")],
     ["question", 10, 1, null]);
@@ -2395,6 +2397,11 @@ async function screens() {
         [`${high}/1 ${low}/2 | ${high}/off ${low}/0 | \u22120.056`, "lost", "good"]);
     equal("the dearest is open, with why", [used.document.querySelectorAll(".reviewed .compared").length,
         rows[3].querySelectorAll(".compared figure, .signs").length], [2, 5]);
+    equal("of its own position", rows[3].querySelector(".signs th[scope=row]").textContent,
+        `Of ${questions[3].points} with ${questions[3].roll}`);
+    const misses = [5n, 9n, 7n].map((loss, place) => ({ at: `${place},1,0,0,0,0`, roll: [2, 1], play: { loss } }));
+    equal("the dearest of some", openedOf({ drill: { ask: "play" }, estimates: [], guesses: misses,
+        questions: misses.map(({ at, roll }) => ({ points: at.split(",").map(Number), roll })) }).place, 1);
     equal("the lesson that fits, where the page has it", used.find("fitting lesson"), null);
     await used.clicked("open 3");
     equal("and closes", [used.document.querySelectorAll(".reviewed .compared").length,
@@ -2441,6 +2448,9 @@ async function screens() {
     equal("how much was right stays", [path.text("mark 1"), (await Used.open("", { lessons, before: (window) => {
         window.kept = path.window.kept;
     } })).text("mark 1")], [`${right} of 20`, `${right} of 20`]);
+    const two = { drill: null, lesson: 1, lessons: [{ steps: [{ answer: "" }, { answer: "" }] }], isAnswered: false };
+    equal("a lesson is read at its last step", [1, 2].map((step) =>
+        learntBetween({ ...two, step: 0 }, { ...two, step })), [null, [1, 0, 0]]);
     const ROOM_LESSONS = ROOMS.flatMap((room) => room.lessons.map(({ number }) => number));
     equal("each lesson is in one room", [...ROOM_LESSONS].sort((one, other) => one - other),
         Array.from({ length: 17 }, (_, place) => place + 1));
