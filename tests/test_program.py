@@ -43,7 +43,7 @@ TYPED_HELP = (
     "Lines: mean, dist or rank and a position; play or moves, a position and a roll; loss, a\n"
     "position, a roll and a position. A position is six counts, that of the ace point first:\n"
     "mean 0,0,0,0,0,1. A roll is two digits: play 0,0,0,2,0,0 21. An empty line or help shows this,\n"
-    "and Ctrl-D ends the input.\n"
+    "and quit or Ctrl-D ends the input.\n"
 )
 BUILD_USAGE = "Usage: bearoff build --pips <N> <FILE>\n       bearoff build --board <FILE>"
 READERS = ("check", "query", "query --cache 1", "audit")
@@ -731,10 +731,11 @@ class TestTerminal:
         told = as_bytes(REPLIES if typed else "")
         assert (child.returncode, output, errors) == (0, told, b"")
 
-    # where standard output is the terminal, too, a prompt stands before each line, and an empty one
-    # and `help` have the help
-    @pytest.mark.parametrize("words", ["", "query eight", "query --board whole"])
-    def test_the_prompt(self, files, program, whole, words):
+    # where standard output is the terminal, too, a prompt stands before each line
+    @pytest.mark.parametrize(
+        "words, end", [("", b"\4"), ("query eight", b"quit\n"), ("query --board whole", b"\4")]
+    )
+    def test_the_prompt(self, files, program, whole, words, end):
         os.symlink(whole, "whole")
         typist, terminal = os.openpty()
         settings = termios.tcgetattr(terminal)
@@ -746,14 +747,11 @@ class TestTerminal:
         )
         os.close(terminal)
         shown = b""
-        replies = {
-            "mean 0,0,1,0,0,0": "mean 1/1 epc 49/6 8.167\n",
-            "": TYPED_HELP,
-            "help": TYPED_HELP,
-        }
-        lines = ["mean 0,0,1,0,0,0", *5 * [""], "help", "help me", "quit", "rank", 100 * "x"]
+        mean = "mean 0,0,1,0,0,0"
+        replies = {mean: "mean 1/1 epc 49/6 8.167\n", "": TYPED_HELP, "help": TYPED_HELP}
+        lines = [mean, *5 * [""], "help", "help me", "quit it", "rank", 100 * "x"]
         try:
-            os.write(typist, "".join(f"{line}\n" for line in lines).encode() + b"\4")
+            os.write(typist, "".join(f"{line}\n" for line in lines).encode() + end)
             with contextlib.suppress(OSError):
                 while piece := os.read(typist, 4096):
                     shown += piece

@@ -12,8 +12,7 @@ use Rattle.bearoff_cli.specs.declared.fault.Fault.{Fault}
 use Rattle.bearoff_cli.specs.declared.fault.Fault.TheVariants.{Open, File, Read, Write, Memory, Turns, OverBound}
 use Rattle.bearoff_cli.specs.declared.fault.Fault.TheVariants.{Refused, NotOld}
 use Rattle.bearoff_cli.specs.Faults.{IsAnswerFault, IsBuildFault, IsCheckFault, IsQueryFault, IsReadFault}
-use Rattle.bearoff_cli.specs.Faults.{IsUpgradeFault}
-use Rattle.bearoff_cli.specs.Turns.{HasUsedTurns, UsesTurns}
+use Rattle.bearoff_cli.specs.Faults.{IsUpgradeFault, HasUsedTurns, UsesTurns}
 
 -- a file that can't be read can't be checked
 pub check_of_read : (fault : Fault) → IsReadFault fault → IsCheckFault fault

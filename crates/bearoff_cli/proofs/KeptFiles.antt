@@ -1,12 +1,17 @@
 -- Where a path leads stands the old file or the whole new one, however a command ends.
-use Rattle.std.proofs.Common.{◌≡◌, ℕ, ◌<◌, inl, inr, ⊎_elim, List, [], ◌∷◌, ◌++◌, Option, Some, None}
-use Rattle.std.proofs.Common.{Result, Ok, Err, refl, sym, subst, ap, ◌∙◌, arith}
+use Rattle.std.proofs.Common.{◌≡◌, ℕ, ◌<◌, inl, inr, ⊎_elim, List, [], ◌∷◌, ◌++◌, Option, Some, None, Result, Ok, Err}
+use Rattle.std.proofs.Common.{refl, sym, subst, ap, ◌∙◌, arith}
 use Rattle.std.specs.Prelude.{OnOk, OnErr}
 use Rattle.std.specs.Io.KnownBytes.{Appends}
 use Rattle.std.specs.String.{string_bytes}
 use Rattle.command_line.specs.Asked.{Asked, default, build, check, query, ask, about, audit, upgrade}
-use Rattle.bearoff_cli.specs.Statuses.{status_of}
+use Rattle.bearoff_cli.specs.Lines.{status_of}
+use Rattle.bearoff_cli.specs.declared.act.ProgramFault.TheVariants.{Failed}
 use Rattle.bearoff_cli.specs.declared.fault.Fault.{Fault}
+use Rattle.bearoff_cli.specs.declared.fault.Fault.TheVariants.{Memory}
+use Rattle.bearoff_cli.specs.FileAnswers.{IsReadFrom}
+use Rattle.bearoff_cli.specs.Requests.{EndsAs}
+use Rattle.bearoff_cli.proofs.ToldFaults.{memory_refusal}
 use Rattle.whole_file.specs.Disks.{Moment, IsSameAt, AllOf, Goes}
 use Rattle.whole_file.specs.Drafts.{IsOldOrWhole, IsBegun, IsDropped, IsPut}
 use Rattle.whole_file.specs.Paths.{Paths, IsSameBehind, LeadsTo, PathStays, place_of}
@@ -215,6 +220,20 @@ input_same (ask path lines) input = refl
 input_same (about path) input = refl
 input_same (audit kind path) input = refl
 input_same (upgrade before after) input = refl
+
+-- where memory is wanting before anything was done, each request ends so
+pub memory_ends : {F W T : Type 0} (remaining : F → Option (List ℕ))
+    (contents : W → Option (List ℕ)) (paths : Paths) (told : Option (List Moment))
+    (input old : Option (List ℕ)) (asked : Asked)
+    → EndsAs {T = T} remaining contents paths told told input input old old (Err (Failed Memory))
+    asked
+memory_ends remaining contents paths told input old asked = record {
+  fault = memory_refusal (IsReadFrom remaining paths told) asked input old;
+  done = tt;
+  put = tt;
+  leaves = leaves_same paths asked told;
+  unread = input_same asked input;
+}
 
 -- a fault of status 1 comes with no status over it
 pub low_status : {X : Type 0} (fault : Fault) (old new : X) → status_of fault ≡ 1

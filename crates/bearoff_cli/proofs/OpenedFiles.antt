@@ -17,12 +17,11 @@ use Rattle.epc_query.proofs.Runs.{read_all, read_front}
 use Rattle.whole_file.specs.Disks.{Moment}
 use Rattle.whole_file.specs.Paths.{Paths, ReadsBehind}
 use Rattle.bearoff_cli.proofs.Requests.{IsNot}
-use Rattle.bearoff_cli.specs.InputAnswers.{AreAnswered}
+use Rattle.bearoff_cli.specs.FileAnswers.{AreAnswered, AreAnsweredFrom, IsHandedTo, IsReadFrom, SaysAbout, SaysLevels}
+use Rattle.bearoff_cli.specs.FileAnswers.{SaysRight, SaysUpgraded, WritesLevels, about_file, about_text, count_line}
+use Rattle.bearoff_cli.specs.FileAnswers.{version_in}
 use Rattle.bearoff_cli.specs.Kinds.{stated_file, stated_kind}
-use Rattle.bearoff_cli.specs.FileAnswers.{AreAnsweredFrom, IsHandedTo, IsReadFrom, SaysAbout, SaysLevels}
-use Rattle.bearoff_cli.specs.FileAnswers.{SaysRight, SaysUpgraded, WritesLevels, about_file, about_text}
-use Rattle.bearoff_cli.specs.FileAnswers.{count_line, version_in}
-use Rattle.command_line.specs.declared.words.FileKind.{FileKind}
+use Rattle.db_layout.specs.declared.stated.Kind.{Kind}
 use Rattle.bearoff_cli.specs.declared.act.Done.TheVariants.{Checked, Upgraded}
 
 -- a list of no length is none
@@ -183,7 +182,7 @@ says_right kind From file pips old new (Ok x) read right same h = record {
 says_right kind From file pips old new (Err e) read right same h = tt
 
 -- the lines of what a file is
-pub about_is : (file : List ℕ) (kind : FileKind) (version pips : ℕ) → kind ≡ stated_kind file
+pub about_is : (file : List ℕ) (kind : Kind) (version pips : ℕ) → kind ≡ stated_kind file
     → version ≡ version_in (stated_file file) → pips ≡ bound_by (stated_file file)
     → about_text kind version pips (count_to pips) ≡ about_file file
 about_is file kind version pips k v p =

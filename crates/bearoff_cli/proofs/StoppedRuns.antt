@@ -1,6 +1,5 @@
 -- What stands in the output where a command failed, from what its parts wrote.
-use Rattle.std.proofs.Common.{◌≡◌, ℕ, suc, ◌≤◌, ◌⊎◌, inl, inr, List, ◌∷◌, [], ◌++◌, take, Option, Some, Result}
-use Rattle.std.proofs.Common.{Ok, Err}
+use Rattle.std.proofs.Common.{◌≡◌, ℕ, suc, ◌≤◌, ◌⊎◌, inl, inr, List, ◌∷◌, [], ◌++◌, take, Option, Some, Result, Ok, Err}
 use Rattle.std.proofs.Common.{IfErr, refl, subst, arith}
 use Rattle.std.specs.Prelude.{OnErr}
 use Rattle.std.specs.Io.KnownBytes.{Keeps}
@@ -24,7 +23,7 @@ use Rattle.bearoff_cli.specs.Kinds.{stated_file}
 use Rattle.bearoff_cli.specs.StoppedRuns.{AreStopped, IsNothingOr, Leaves, LeavesReplies, WritesLevelsPart}
 use Rattle.bearoff_cli.specs.StoppedRuns.{WritesLevelPart}
 use Rattle.command_line.specs.Asked.{ask}
-use Rattle.bearoff_cli.specs.Turns.{UsesTurns}
+use Rattle.bearoff_cli.specs.Faults.{UsesTurns}
 use Rattle.bearoff_cli.specs.declared.act.Done.{Done}
 
 -- whole lines of pip counts are a part of all lines

@@ -1,6 +1,6 @@
 -- What the faults of the parts say of a file.
-use Rattle.std.proofs.Common.{◌≡◌, ℕ, List, [], ◌++◌, Option, Result, Ok, Err, IfOk, IfErr, Some, None}
-use Rattle.std.proofs.Common.{◌⊎◌, inl, inr, refl, ap, subst, sym, ◌∙◌, ◌<◌, ◌≤◌, arith}
+use Rattle.std.proofs.Common.{◌≡◌, ℕ, List, [], ◌++◌, Option, Result, Ok, Err, IfOk, IfErr, Some, None, ◌⊎◌, inl, inr}
+use Rattle.std.proofs.Common.{refl, ap, subst, sym, ◌∙◌, ◌<◌, ◌≤◌, arith}
 use Rattle.std.proofs.lemmas.Bool.{cases_lt}
 use Rattle.std.specs.Prelude.{◌↔◌, OnOk}
 use Rattle.race_model.specs.Versions.{Version, full, compact}
@@ -16,17 +16,15 @@ use Rattle.epc_query.specs.declared.run_fault.RunFault.TheVariants.{Read as Inpu
 use Rattle.epc_query.specs.declared.run_fault.RunFault.TheVariants.{Memory as NoMemoryLeft, Turns as NoTurns}
 use Rattle.epc_query.specs.AnyFiles.{AnyFile}
 use Rattle.bearoff_cli.specs.Causes.{of_check, of_run, of_upgrade}
-use Rattle.bearoff_cli.specs.Lines.{error_line}
+use Rattle.bearoff_cli.specs.Lines.{error_line, status_of}
 use Rattle.bearoff_cli.specs.Meanings.{meaning_line, shown}
-use Rattle.bearoff_cli.specs.Statuses.{status_of}
 use Rattle.bearoff_cli.specs.declared.fault.Fault.{Fault}
 use Rattle.bearoff_cli.specs.declared.fault.Fault.TheVariants.{Open, File, Read, Write, Memory, Turns, OverBound}
 use Rattle.bearoff_cli.specs.declared.fault.Fault.TheVariants.{Refused, NotOld}
 use Rattle.command_line.specs.Asked.{Asked, default, build, check, query, ask, about, audit, upgrade}
-use Rattle.bearoff_cli.specs.Faults.{CanEnd, IsBoundFault, IsFaultIn, IsFirstBy, IsOwnFault, IsFaultOf}
+use Rattle.bearoff_cli.specs.Faults.{CanEnd, IsBoundFault, IsFaultIn, IsFirstBy, IsOwnFault, IsFaultOf, UsesTurns}
 use Rattle.bearoff_cli.specs.StoppedRuns.{IsBare, IsEndOf, IsOfFile, IsRefusalOf, Leaves, RunsOut}
 use Rattle.bearoff_cli.specs.Tellings.{ExplainsBy, IsExplainedFor, IsReasonOf, IsToldBy, MayTell, Tells}
-use Rattle.bearoff_cli.specs.Turns.{UsesTurns}
 use Rattle.bearoff_cli.specs.declared.act.ProgramFault.{ProgramFault}
 use Rattle.bearoff_cli.specs.declared.act.ProgramFault.TheVariants.{Words, Failed, Explained}
 

@@ -1,13 +1,15 @@
 -- Which fault is told where a command fails. Source: this project's profile.
-use Rattle.std.specs.Prelude.{◌≡◌, ℕ, ◌<◌, ◌≤◌, ◌⊎◌, List, None}
+use Rattle.std.specs.Prelude.{◌≡◌, ℕ, ◌^◌, ◌<◌, ◌≤◌, ◌⊎◌, List, length, Option, Some, None}
+use Rattle.std.specs.Io.KnownBytes.{Consumes}
 use Rattle.race_model.specs.Versions.{compact}
 use Rattle.race_model.specs.Files.{version_of}
 use Rattle.race_model.specs.RightFiles.{IsRightDatabase}
 use Rattle.certificate.specs.CheckFaults.{IsFirst, IsFirstOnBoard}
 use Rattle.certificate.specs.declared.check_fault.CheckFault.{CheckFault}
+use Rattle.db_reader.specs.Telling.{WhereTold}
 use Rattle.epc_query.specs.AnyFiles.{AnyFile, database_file, board_file}
 use Rattle.command_line.specs.Asked.{Asked, default, build, check, query, ask, about, audit, upgrade}
-use Rattle.bearoff_cli.specs.Statuses.{status_of}
+use Rattle.bearoff_cli.specs.Lines.{status_of}
 use Rattle.bearoff_cli.specs.declared.fault.Fault.{Fault}
 use Rattle.bearoff_cli.specs.declared.fault.Fault.TheVariants.{Open, File, Read, Write, Memory, Turns, OverBound}
 use Rattle.bearoff_cli.specs.declared.fault.Fault.TheVariants.{Refused, NotOld}
@@ -71,12 +73,9 @@ IsReadFault _ = ⊥
 
 -- .. one that checks a file, or audits it
 abbrev pub IsCheckFault : Fault → Type 0
-IsCheckFault Open = Unit {0}
-IsCheckFault File = Unit {0}
 IsCheckFault Write = Unit {0}
-IsCheckFault Memory = Unit {0}
 IsCheckFault (Refused cause) = Unit {0}
-IsCheckFault _ = ⊥
+IsCheckFault fault = IsReadFault fault
 
 -- .. one that upgrades it
 abbrev pub IsUpgradeFault : Fault → Type 0
@@ -108,9 +107,18 @@ pub record IsBoundFault (most pips : ℕ) (fault : Fault) : Type 0 where
 abbrev pub CanEnd : Asked → Fault → Type 0
 CanEnd default = IsAnswerFault
 CanEnd (build kind pips path) = IsBoundFault (greatest kind) pips
-CanEnd (check kind path) = IsCheckFault
 CanEnd (query kind path records) = IsQueryFault
 CanEnd (ask path lines) = IsQueryFault
-CanEnd (about path) = IsCheckFault
-CanEnd (audit kind path) = IsCheckFault
 CanEnd (upgrade before after) = IsUpgradeFault
+CanEnd _ = IsCheckFault
+
+-- 2 ^ 40 bytes of an input were read at least, where the fault is that it didn't end within as many
+-- reads: each of them gave a byte
+abbrev pub HasUsedTurns : List ℕ → Option (List ℕ) → Fault → Type 0
+HasUsedTurns input left Turns =
+    (done : List ℕ) × Consumes (Some input) left done × (2 ^ 40 ≤ length done)
+HasUsedTurns input left _ = Unit {0}
+
+-- .. of an input that is told
+abbrev pub UsesTurns : Option (List ℕ) → Option (List ℕ) → Fault → Type 0
+UsesTurns input left fault = WhereTold input (λ given. HasUsedTurns given left fault)

@@ -1,6 +1,9 @@
--- What the program writes of a database or a board file. Source: this project's profile.
+-- What the program writes of a database or a board file, and for lines. Source: this project's
+-- profile.
 use Rattle.std.specs.Prelude.{◌≡◌, ℕ, zero, suc, List, [], ◌∷◌, ◌++◌, take, Option, codes, decimal}
-use Rattle.std.specs.Io.KnownBytes.{Appends}
+use Rattle.std.specs.Io.KnownBytes.{Appends, IsAtEnd}
+use Rattle.race_model.specs.BuiltFile.{IsBuilt}
+use Rattle.race_model.specs.InputLines.{lines_of}
 use Rattle.race_model.specs.Ranks.{count_to}
 use Rattle.race_model.specs.Versions.{full, version_number}
 use Rattle.race_model.specs.Files.{version_of, bound_of}
@@ -8,11 +11,12 @@ use Rattle.race_model.specs.RightFiles.{IsRightDatabase}
 use Rattle.db_reader.specs.Telling.{WhereTold}
 use Rattle.certificate.specs.Upgrades.{WritesUpgrade}
 use Rattle.epc_query.specs.AnyFiles.{AnyFile, database_file, board_file, bound_by, IsRightBy, IsLevelLineBy}
-use Rattle.command_line.specs.declared.words.FileKind.{FileKind}
-use Rattle.command_line.specs.declared.words.FileKind.TheVariants.{Database, Board}
+use Rattle.db_layout.specs.declared.stated.Kind.{Kind}
+use Rattle.db_layout.specs.declared.stated.Kind.TheVariants.{Database, Board}
+use Rattle.epc_query.specs.Runs.{HasReplies}
+use Rattle.retrograde.specs.UsualVersion.{usual_version}
 use Rattle.whole_file.specs.Disks.{Moment, Holds, Lastly}
 use Rattle.whole_file.specs.Paths.{Paths, LeadsTo, place_of}
-use Rattle.bearoff_cli.specs.InputAnswers.{AreAnswered}
 use Rattle.bearoff_cli.specs.Kinds.{stated_file, stated_kind}
 use Rattle.bearoff_cli.specs.declared.act.Done.{Done}
 use Rattle.bearoff_cli.specs.declared.act.Done.TheVariants.{Built, Checked, Upgraded}
@@ -31,6 +35,21 @@ abbrev pub IsHandedTo : {W : Type 0} → (W → Option (List ℕ))
     → (Option (List ℕ) → Option (List ℕ) → Type 0) → Type 0
 IsHandedTo {W} contents Writes =
     (before : W) × (after : W) × Writes (contents before) (contents after)
+
+-- the input was read to its end, the file is right, and the replies to the lines of the input were
+-- written, and nothing else
+pub record AreAnswered (file : AnyFile) (given : List ℕ)
+    (left old new : Option (List ℕ)) : Type 0 where
+  pub right : IsRightBy file
+  pub end : IsAtEnd left
+  pub replies : HasReplies file (lines_of given) old new
+
+-- .. and it is the database that the builder makes of a bound
+pub record AreAnsweredOver (bound : ℕ) (given : List ℕ)
+    (left old new : Option (List ℕ)) : Type 0 where
+  pub file : List ℕ
+  pub built : IsBuilt (usual_version bound) bound file
+  pub answered : AreAnswered (database_file file) given left old new
 
 -- the replies over some opened file of this kind were written
 pub record AreAnsweredFrom (kind : List ℕ → AnyFile)
@@ -67,12 +86,12 @@ version_in (database_file f) = version_number (version_of f)
 version_in (board_file f) = 3
 
 -- the words for a kind of file
-abbrev pub kind_text : FileKind → List ℕ
+abbrev pub kind_text : Kind → List ℕ
 kind_text Database = codes "database"
 kind_text Board = codes "board file"
 
 -- the lines of what a file is
-abbrev pub about_text : FileKind → ℕ → ℕ → ℕ → List ℕ
+abbrev pub about_text : Kind → ℕ → ℕ → ℕ → List ℕ
 about_text kind version pips positions =
     codes "kind " ++ kind_text kind ++ codes "\nversion " ++ decimal version ++ codes "\npips "
     ++ decimal pips ++ codes "\npositions " ++ decimal positions ++ codes "\n"

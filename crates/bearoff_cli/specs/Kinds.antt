@@ -9,17 +9,19 @@ use Rattle.retrograde.specs.UsualVersion.{usual_version}
 use Rattle.retrograde.specs.BuiltBoards.{IsBuiltBoard}
 use Rattle.epc_query.specs.declared.database.Accepted.{Accepted}
 use Rattle.epc_query.specs.AnyFiles.{AnyFile, database_file, board_file}
-use Rattle.command_line.specs.declared.words.FileKind.{FileKind}
-use Rattle.command_line.specs.declared.words.FileKind.TheVariants.{Database, Board}
+use Rattle.bearoff_cli.specs.declared.files.Ready.{Ready}
+use Rattle.bearoff_cli.specs.declared.files.Ready.TheVariants.{Database as OfDatabase, Board as OfBoard}
+use Rattle.db_layout.specs.declared.stated.Kind.{Kind}
+use Rattle.db_layout.specs.declared.stated.Kind.TheVariants.{Database, Board}
 
 -- the file of this kind that has these bytes
-abbrev pub file_of : FileKind → List ℕ → AnyFile
+abbrev pub file_of : Kind → List ℕ → AnyFile
 file_of Database = database_file
 file_of Board = board_file
 
 -- the kind that the header of a file states: a board file where its version is 3, and else a
 -- database
-unfoldable pub stated_kind : List ℕ → FileKind
+unfoldable pub stated_kind : List ℕ → Kind
 stated_kind f = if from_be_bytes w16 (bytes_at f 8 2) == 3 then Board else Database
 
 -- the file of that kind that has these bytes
@@ -27,27 +29,32 @@ abbrev pub stated_file : List ℕ → AnyFile
 stated_file f = file_of (stated_kind f) f
 
 -- the file of a given kind, or of the stated one, that has these bytes
-abbrev pub file_as : Option FileKind → List ℕ → AnyFile
+abbrev pub file_as : Option Kind → List ℕ → AnyFile
 file_as None = stated_file
 file_as (Some kind) = file_of kind
 
 -- the greatest pip bound of a file of this kind
-abbrev pub greatest : FileKind → ℕ
+abbrev pub greatest : Kind → ℕ
 greatest Database = 58
 greatest Board = 90
 
 -- the bytes are the built file of this kind and this bound
-abbrev pub IsBuiltOf : FileKind → ℕ → List ℕ → Type 0
+abbrev pub IsBuiltOf : Kind → ℕ → List ℕ → Type 0
 IsBuiltOf Database bound = IsBuilt (usual_version bound) bound
 IsBuiltOf Board bound = IsBuiltBoard bound
 
 -- .. and were written
-abbrev pub WritesBuiltOf : FileKind → ℕ → Option (List ℕ) → Option (List ℕ) → Type 0
+abbrev pub WritesBuiltOf : Kind → ℕ → Option (List ℕ) → Option (List ℕ) → Type 0
 WritesBuiltOf kind bound old new =
     (file : List ℕ) × IsBuiltOf kind bound file × Appends old new file
 
+-- a build that has taken its memory makes the file of this kind and this bound
+abbrev pub Makes : Ready → Kind → ℕ → Type 0
+Makes (OfDatabase bound) kind pips = (kind ≡ Database) × (bound ≡ pips)
+Makes (OfBoard bound room) kind pips = (kind ≡ Board) × (bound ≡ pips)
+
 -- what is kept of right bytes beside their bound: the version of a database; the bound of a board
 -- file is one
-abbrev pub IsKept : FileKind → Accepted → List ℕ → Type 0
+abbrev pub IsKept : Kind → Accepted → List ℕ → Type 0
 IsKept Database kept f = kept.version ≡ version_number (version_of f)
 IsKept Board kept f = kept.bound ≤ 90

@@ -1,15 +1,11 @@
 pub mod Causes
 pub mod Faults
 pub mod FileAnswers
-pub mod InputAnswers
 pub mod Kinds
 pub mod Lines
 pub mod Meanings
 pub mod PutFiles
-pub mod RefusedFiles
 pub mod Requests
-pub mod Statuses
 pub mod StoppedRuns
 pub mod Tellings
-pub mod Turns
 pub mod TypedLines

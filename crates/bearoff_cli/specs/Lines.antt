@@ -1,4 +1,4 @@
--- The line of each fault of the program (this project's profile).
+-- The line and the exit status of each fault of the program (this project's profile).
 use Rattle.std.specs.Prelude.{ℕ, List, ◌++◌, codes}
 use Rattle.certificate.specs.CheckFaults.{line_of}
 use Rattle.bearoff_cli.specs.declared.fault.Fault.{Fault}
@@ -20,3 +20,11 @@ word_of NotOld = codes "not-old"
 -- what is written to standard error
 abbrev pub error_line : Fault → List ℕ
 error_line fault = codes "bearoff: " ++ word_of fault ++ codes "\n"
+
+-- 1 for what failed outside the database, 2 for a bound that is too large, 3 for a database that
+-- was refused, or that is no old one
+abbrev pub status_of : Fault → ℕ
+status_of OverBound = 2
+status_of (Refused fault) = 3
+status_of NotOld = 3
+status_of _ = 1

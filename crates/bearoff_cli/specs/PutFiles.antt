@@ -1,19 +1,22 @@
 -- What stands where a path leads once a command has written a file there, and what a command leaves
 -- of the disk and of its input, however it ends. Source: this project's profile.
-use Rattle.std.specs.Prelude.{◌≡◌, ℕ, ◌⊎◌, List, ◌∷◌, Option, Some, None}
+use Rattle.std.specs.Prelude.{◌≡◌, ℕ, ◌<◌, ◌⊎◌, List, ◌∷◌, Option, Some, None, Result, IfErr}
 use Rattle.std.specs.String.{string_bytes}
 use Rattle.race_model.specs.Files.{version_of}
 use Rattle.race_model.specs.RightFiles.{IsRightDatabase}
 use Rattle.race_model.specs.Upgrades.{IsUpgrade}
 use Rattle.race_model.specs.Versions.{full}
-use Rattle.command_line.specs.Asked.{Asked, IsAskedBy, default, build, check, query, ask, about, audit}
-use Rattle.command_line.specs.Asked.{upgrade}
+use Rattle.command_line.specs.Asked.{Asked, IsAskedBy, default, build, query, upgrade}
 use Rattle.whole_file.specs.Disks.{Moment, Goes, Holds, Lastly}
 use Rattle.whole_file.specs.Drafts.{IsDraft, IsOldOrWhole}
 use Rattle.whole_file.specs.Paths.{Paths, IsFixed, LeadsTo, place_of}
 use Rattle.whole_file.specs.Puts.{Puts}
 use Rattle.whole_file.specs.declared.draft.Names.{Names}
 use Rattle.bearoff_cli.specs.Kinds.{IsBuiltOf}
+use Rattle.bearoff_cli.specs.Lines.{status_of}
+use Rattle.bearoff_cli.specs.declared.fault.Fault.{Fault}
+use Rattle.bearoff_cli.specs.declared.act.ProgramFault.{ProgramFault}
+use Rattle.bearoff_cli.specs.declared.act.ProgramFault.TheVariants.{Words, Failed, Explained}
 
 -- the upgrade of a right database of version 1 was put where a path leads
 abbrev pub PutsUpgrade : Paths → List ℕ → Option (List Moment) → Option (List Moment) → Type 0
@@ -22,14 +25,9 @@ PutsUpgrade paths path old new = (file : List ℕ) × IsRightDatabase file × (v
 
 -- what a request that was fulfilled has put where its path leads, where it writes a file
 abbrev pub PutsFor : Paths → Asked → Option (List Moment) → Option (List Moment) → Type 0
-PutsFor paths default old new = Unit {0}
 PutsFor paths (build kind pips path) old new = Puts paths path (IsBuiltOf kind pips) old new
-PutsFor paths (check kind path) old new = Unit {0}
-PutsFor paths (query kind path records) old new = Unit {0}
-PutsFor paths (ask path lines) old new = Unit {0}
-PutsFor paths (about path) old new = Unit {0}
-PutsFor paths (audit kind path) old new = Unit {0}
 PutsFor paths (upgrade before after) old new = PutsUpgrade paths after old new
+PutsFor paths _ old new = Unit {0}
 
 -- at each moment a crash leaves at a path what it might have left at first, or a file of which this
 -- holds; and in the end there stands what stood there, or such a file
@@ -64,15 +62,10 @@ KeepsUpgrade paths path old new = (new ≡ old) ⊎ ((file : List ℕ) × IsRigh
 -- what a request leaves of the disk, however it ends: all of it, where it writes no file; else,
 -- where its path leads, the old file or the whole new one
 abbrev pub LeavesFor : Paths → Asked → Option (List Moment) → Option (List Moment) → Type 0
-LeavesFor paths default old new = new ≡ old
 LeavesFor paths (build kind pips path) old new =
     KeepsBehind paths path (IsBuiltOf kind pips) old new
-LeavesFor paths (check kind path) old new = new ≡ old
-LeavesFor paths (query kind path records) old new = new ≡ old
-LeavesFor paths (ask path lines) old new = new ≡ old
-LeavesFor paths (about path) old new = new ≡ old
-LeavesFor paths (audit kind path) old new = new ≡ old
 LeavesFor paths (upgrade before after) old new = KeepsUpgrade paths after old new
+LeavesFor paths _ old new = new ≡ old
 
 -- .. and of the input: all of it, where it answers no lines of it
 abbrev pub LeavesInput : Asked → Option (List ℕ) → Option (List ℕ) → Type 0
@@ -86,3 +79,18 @@ abbrev pub LeavesBy : Paths → List (List ℕ) → Option (List Moment) → Opt
 LeavesBy paths words old new input left = ((new ≡ old) × (left ≡ input))
     ⊎ ((asked : Asked) × IsAskedBy words asked × LeavesFor paths asked old new
     × LeavesInput asked input left)
+
+-- the output, or the disk, is as it was where the program ends with the status of a bound that is
+-- too large, or of a refused database
+abbrev pub KeepsIfRefused : {T X : Type 0} → Result T Fault → X → X → Type 0
+KeepsIfRefused result old new = IfErr result (λ fault. 1 < status_of fault → new ≡ old)
+
+-- .. and where the words are wrong
+abbrev pub KeepsAt : {X : Type 0} → X → X → ProgramFault → Type 0
+KeepsAt old new (Words error) = new ≡ old
+KeepsAt old new (Failed fault) = 1 < status_of fault → new ≡ old
+KeepsAt old new (Explained it) = 1 < status_of it.fault → new ≡ old
+
+-- where the result is a refusal, it is as `KeepsAt` says
+abbrev pub KeepsIfTold : {T X : Type 0} → Result T ProgramFault → X → X → Type 0
+KeepsIfTold result old new = IfErr result (KeepsAt old new)

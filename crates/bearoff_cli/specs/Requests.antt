@@ -1,40 +1,21 @@
--- Which words ask for what, and what a command has done where it ends without a fault. Source:
--- this project's profile.
-use Rattle.std.specs.Prelude.{◌≡◌, ℕ, ◌<◌, ◌≤◌, List, [], ◌∷◌, Option, Some, None, codes}
+-- What a command has done and leaves, however it ends. Source: this project's profile.
+use Rattle.std.specs.Prelude.{◌≡◌, ℕ, ◌<◌, ◌≤◌, List, [], Option, Some, None, Result, IfErr, OnOk}
 use Rattle.std.specs.Io.KnownBytes.{Appends}
 use Rattle.race_model.specs.Ranks.{count_to}
-use Rattle.command_line.specs.Asked.{Asked, ArePlain, IsPlain, Writes, as_input, flagged}
-use Rattle.command_line.specs.Asked.{default, build, check, query, ask, about, audit, upgrade}
-use Rattle.command_line.specs.declared.words.FileKind.TheVariants.{Database, Board}
+use Rattle.command_line.specs.Asked.{Asked, default, build, check, query, ask, about, audit, upgrade}
 use Rattle.db_reader.specs.Telling.{WhereTold}
-use Rattle.bearoff_cli.specs.InputAnswers.{AreAnsweredOver}
-use Rattle.bearoff_cli.specs.FileAnswers.{AreAnsweredFrom, IsHandedTo, SaysAbout, SaysRight, SaysUpgraded}
-use Rattle.bearoff_cli.specs.FileAnswers.{SaysLevels, count_line}
-use Rattle.bearoff_cli.specs.Kinds.{WritesBuiltOf, file_of, greatest, stated_file}
+use Rattle.bearoff_cli.specs.FileAnswers.{AreAnsweredOver, AreAnsweredFrom, IsHandedTo, IsReadFrom, SaysAbout}
+use Rattle.bearoff_cli.specs.FileAnswers.{SaysRight, SaysUpgraded, SaysLevels, count_line}
+use Rattle.whole_file.specs.Disks.{Moment}
+use Rattle.whole_file.specs.Paths.{Paths}
+use Rattle.bearoff_cli.specs.Kinds.{WritesBuiltOf, greatest, stated_file, file_of}
+use Rattle.bearoff_cli.specs.PutFiles.{LeavesFor, LeavesInput, PutsFor}
+use Rattle.bearoff_cli.specs.Lines.{status_of}
+use Rattle.bearoff_cli.specs.StoppedRuns.{IsEndOf, IsRefusalOf}
+use Rattle.bearoff_cli.specs.Tellings.{Tells}
 use Rattle.bearoff_cli.specs.declared.act.Done.TheVariants.{Built}
-
--- the words are these of the request: the name of the command, `--board` for a board file or an
--- option with its number before the file, and files and lines that don't begin with a hyphen
-abbrev pub Asks : List (List ℕ) → Asked → Type 0
-Asks words default = words ≡ []
-Asks words (build Database pips path) = (digits : List ℕ) × Writes pips digits × (pips < 256)
-    × IsPlain path × (words ≡ codes "build" ∷ codes "--pips" ∷ digits ∷ path ∷ [])
-Asks words (build Board pips path) = (pips ≡ 90) × IsPlain path
-    × (words ≡ codes "build" ∷ codes "--board" ∷ path ∷ [])
-Asks words (check kind path) = IsPlain path × (words ≡ codes "check" ∷ flagged kind (path ∷ []))
-Asks words (query kind path None) =
-    IsPlain path × (words ≡ codes "query" ∷ flagged kind (path ∷ []))
-Asks words (query Database path (Some records)) = (digits : List ℕ) × Writes records digits
-    × (1 ≤ records) × (records < 65536) × IsPlain path
-    × (words ≡ codes "query" ∷ codes "--cache" ∷ digits ∷ path ∷ [])
-Asks words (query Board path (Some records)) = ⊥
-Asks words (ask path text) = (line : List ℕ) × (lines : List (List ℕ)) × IsPlain path
-    × ArePlain (line ∷ lines) × (text ≡ as_input (line ∷ lines))
-    × (words ≡ codes "ask" ∷ path ∷ line ∷ lines)
-Asks words (about path) = IsPlain path × (words ≡ codes "about" ∷ path ∷ [])
-Asks words (audit kind path) = IsPlain path × (words ≡ codes "audit" ∷ flagged kind (path ∷ []))
-Asks words (upgrade before after) = IsPlain before × IsPlain after
-    × (words ≡ codes "upgrade" ∷ before ∷ after ∷ [])
+use Rattle.bearoff_cli.specs.declared.act.ProgramFault.{ProgramFault}
+use Rattle.bearoff_cli.specs.declared.fault.Fault.{Fault}
 
 -- what was read of the input and of an opened file and written to the output, where the request was
 -- fulfilled. Nothing is said of the answers by pages: what a seek and a read give, no contract of
@@ -58,3 +39,26 @@ IsDone From contents (audit kind path) input left old new =
     SaysLevels (file_of kind) (From path) old new
 IsDone From contents (upgrade before after) input left old new =
     SaysUpgraded (From before) contents old new
+
+-- a request ended with this result: it was fulfilled or refused
+pub record EndsAs {F W T : Type 0} (remaining : F → Option (List ℕ))
+    (contents : W → Option (List ℕ)) (paths : Paths) (told now : Option (List Moment))
+    (input left old new : Option (List ℕ)) (result : Result T ProgramFault) (asked : Asked) :
+    Type 0 where
+  pub fault : IfErr result (IsRefusalOf (IsReadFrom remaining paths told) asked input left old new)
+  pub done : OnOk result
+      (IsDone (IsReadFrom remaining paths told) contents asked input left old new)
+  pub put : OnOk result (PutsFor paths asked told now)
+  pub leaves : LeavesFor paths asked told now
+  pub unread : LeavesInput asked input left
+
+-- .. with this status, where `Line` holds of what is told
+pub record EndsBy {F W : Type 0} (remaining : F → Option (List ℕ)) (contents : W → Option (List ℕ))
+    (paths : Paths) (told : Option (List Moment)) (Line : List ℕ → Type 0)
+    (input left old new : Option (List ℕ)) (status : ℕ) (asked : Asked) : Type 0 where
+  pub fault : 0 < status → (fault : Fault) × (text : List ℕ) × ((status ≡ status_of fault)
+      × Tells asked fault text × Line text
+      × IsEndOf (IsReadFrom remaining paths told) asked input left old new fault)
+  pub done : status ≡ 0
+      → IsDone (IsReadFrom remaining paths told) contents asked input left old new
+  pub unread : LeavesInput asked input left

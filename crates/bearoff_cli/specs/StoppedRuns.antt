@@ -8,18 +8,16 @@ use Rattle.race_model.specs.Versions.{full}
 use Rattle.db_layout.specs.Writes.{AppendsPart}
 use Rattle.db_reader.specs.Telling.{WhereTold}
 use Rattle.retrograde.specs.UsualVersion.{usual_version}
-use Rattle.epc_query.specs.AnyFiles.{AnyFile, database_file, bound_by, IsRightBy}
-use Rattle.epc_query.specs.AnyFiles.{IsLevelLineBy}
+use Rattle.epc_query.specs.AnyFiles.{AnyFile, database_file, bound_by, IsRightBy, IsLevelLineBy}
 use Rattle.epc_query.specs.Runs.{IsRunStopped}
 use Rattle.epc_query.specs.declared.run_fault.RunFault.{RunFault}
 use Rattle.command_line.specs.Asked.{Asked, default, build, check, query, ask, about, audit, upgrade}
 use Rattle.bearoff_cli.specs.Causes.{of_run}
 use Rattle.bearoff_cli.specs.declared.fault.Fault.{Fault}
 use Rattle.bearoff_cli.specs.declared.fault.Fault.TheVariants.{Open, File, Write, Memory, Refused}
-use Rattle.bearoff_cli.specs.Faults.{CanEnd, IsFaultOf, IsOwnFault}
+use Rattle.bearoff_cli.specs.Faults.{CanEnd, IsFaultOf, IsOwnFault, UsesTurns}
 use Rattle.bearoff_cli.specs.FileAnswers.{AreLevelLines, about_file, count_line}
-use Rattle.bearoff_cli.specs.Kinds.{file_of, stated_file}
-use Rattle.bearoff_cli.specs.Turns.{UsesTurns}
+use Rattle.bearoff_cli.specs.Kinds.{stated_file, file_of}
 use Rattle.bearoff_cli.specs.declared.act.Done.TheVariants.{Built, Checked, Upgraded}
 use Rattle.bearoff_cli.specs.declared.act.ProgramFault.{ProgramFault}
 use Rattle.bearoff_cli.specs.declared.act.ProgramFault.TheVariants.{Words, Failed, Explained}
@@ -47,11 +45,6 @@ pub record WritesLevelsPart (file : AnyFile) (old new : Option (List ℕ)) : Typ
   pub levels : AreLevelLines file count lines
   pub written : AppendsPart old new lines
 
--- a prefix of the line of an accepted file was written
-abbrev pub SaysRightPart : AnyFile → Option (List ℕ) → Option (List ℕ) → Type 0
-SaysRightPart file old new =
-    AppendsPart old new (count_line Checked (bound_by file) (count_to (bound_by file)))
-
 -- a prefix of the line of an upgraded database was written, which is of version 1
 abbrev pub SaysUpgradedPart : List ℕ → Option (List ℕ) → Option (List ℕ) → Type 0
 SaysUpgradedPart file old new = (version_of file ≡ full)
@@ -73,7 +66,8 @@ LeavesReplies kind From input left old new fault = WhereTold input (λ given.
 abbrev pub LeavesLine : (List ℕ → AnyFile) → (List ℕ → Type 0)
     → Option (List ℕ) → Option (List ℕ) → Type 0
 LeavesLine kind From old new =
-    IsNothingOr kind From (λ file. SaysRightPart (kind file) old new) old new
+    IsNothingOr kind From (λ file. AppendsPart old new (count_line Checked (bound_by (kind file))
+    (count_to (bound_by (kind file))))) old new
 
 -- .. of the lines of what it is
 abbrev pub LeavesAbout : (List ℕ → Type 0) → Option (List ℕ)

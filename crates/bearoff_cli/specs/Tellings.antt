@@ -3,9 +3,8 @@ use Rattle.std.specs.Prelude.{◌≡◌, ◌⊎◌, ℕ, List, [], ◌∷◌, �
 use Rattle.std.specs.Io.KnownBytes.{Appends}
 use Rattle.db_layout.specs.Writes.{AppendsPart}
 use Rattle.command_line.specs.Asked.{Asked, about}
-use Rattle.bearoff_cli.specs.Lines.{error_line}
+use Rattle.bearoff_cli.specs.Lines.{error_line, status_of}
 use Rattle.bearoff_cli.specs.Meanings.{meaning_line, shown}
-use Rattle.bearoff_cli.specs.Statuses.{status_of}
 use Rattle.bearoff_cli.specs.declared.fault.Fault.{Fault}
 use Rattle.bearoff_cli.specs.declared.fault.Fault.TheVariants.{Open, File, Refused}
 use Rattle.bearoff_cli.specs.declared.act.ProgramFault.{ProgramFault}

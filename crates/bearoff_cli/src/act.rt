@@ -1,6 +1,6 @@
 //! The whole program, over the files of a system, a reader and two writers.
-ghost use Rattle.std.specs.Prelude.{◌≡◌, ℕ, ◌<◌, ◌≤◌, ◌⊎◌, List, [], ◌++◌, map, Option, Some, None, Ok, Err};
-ghost use Rattle.std.specs.Prelude.{IfOk, IfErr, OnOk, OnErr};
+ghost use Rattle.std.specs.Prelude.{◌≡◌, ℕ, ◌<◌, ◌≤◌, ◌⊎◌, List, [], ◌++◌, map, Option, Some, None, Ok, Err, IfOk};
+ghost use Rattle.std.specs.Prelude.{IfErr, OnOk, OnErr};
 ghost use Rattle.std.specs.Io.KnownBytes.{Appends};
 ghost use Rattle.race_model.specs.BuiltFile.{IsBuilt};
 ghost use Rattle.epc_query.specs.AnyFiles.{database_file, IsRightBy};
@@ -8,32 +8,27 @@ ghost use Rattle.race_model.specs.Ranks.{count_to};
 ghost use Rattle.db_reader.specs.Telling.{WhereTold};
 ghost use Rattle.db_layout.specs.Writes.{AppendsPart};
 ghost use Rattle.bearoff_cli.specs.Causes.{of_check};
-ghost use Rattle.bearoff_cli.specs.Lines.{error_line};
+ghost use Rattle.bearoff_cli.specs.Lines.{error_line, status_of};
 ghost use Rattle.bearoff_cli.specs.Meanings.{meaning_line, shown};
-ghost use Rattle.bearoff_cli.specs.Statuses.{status_of};
 ghost use Rattle.bearoff_cli.specs.declared.fault.Fault.{Fault};
 ghost use Rattle.bearoff_cli.specs.declared.fault.Fault.TheVariants.{OverBound, Write};
-ghost use Rattle.command_line.specs.Asked.{Asked, IsAskedBy, asked_by};
+ghost use Rattle.command_line.specs.Asked.{Asked, Asks, IsAskedBy, asked_by};
 ghost use Rattle.certificate.specs.CheckFaults.{IsFirst};
 ghost use Rattle.certificate.specs.declared.check_fault.CheckFault.{CheckFault};
 ghost use Rattle.bearoff_cli.specs.Tellings.{IsExplainedFor, IsReasonOf, IsToldBy, IsWritten, MayTell, Tells};
-ghost use Rattle.bearoff_cli.specs.Turns.{UsesTurns};
-ghost use Rattle.bearoff_cli.specs.Faults.{IsAnswerFault, IsBoundFault, IsCheckFault, IsFaultIn};
-ghost use Rattle.bearoff_cli.specs.Faults.{IsOwnFault, IsQueryFault, IsUpgradeFault};
-ghost use Rattle.bearoff_cli.specs.InputAnswers.{AreAnswered, AreAnsweredOver};
-ghost use Rattle.bearoff_cli.specs.FileAnswers.{AreAnsweredFrom, IsHandedTo, IsReadFrom, SaysAbout, SaysRight};
-ghost use Rattle.bearoff_cli.specs.FileAnswers.{SaysUpgraded, SaysLevels, about_text};
+ghost use Rattle.bearoff_cli.specs.Faults.{UsesTurns, IsAnswerFault, IsBoundFault, IsCheckFault, IsFaultIn, IsOwnFault};
+ghost use Rattle.bearoff_cli.specs.Faults.{IsQueryFault, IsUpgradeFault};
+ghost use Rattle.bearoff_cli.specs.FileAnswers.{AreAnswered, AreAnsweredOver, AreAnsweredFrom, IsHandedTo, IsReadFrom};
+ghost use Rattle.bearoff_cli.specs.FileAnswers.{SaysAbout, SaysRight, SaysUpgraded, SaysLevels, about_text, count_line};
 ghost use Rattle.whole_file.specs.Paths.{untold_paths};
 ghost use Rattle.whole_file.specs.Puts.{Puts};
-ghost use Rattle.bearoff_cli.specs.PutFiles.{KeepsBehind, KeepsUpgrade, LeavesBy, LeavesFor, LeavesInput};
-ghost use Rattle.bearoff_cli.specs.PutFiles.{PutsFor, PutsUpgrade};
+ghost use Rattle.bearoff_cli.specs.PutFiles.{KeepsBehind, KeepsUpgrade, LeavesBy, LeavesFor, LeavesInput, PutsFor};
+ghost use Rattle.bearoff_cli.specs.PutFiles.{PutsUpgrade, KeepsIfRefused, KeepsIfTold};
 ghost use Rattle.retrograde.specs.UsualVersion.{usual_version};
-ghost use Rattle.bearoff_cli.specs.FileAnswers.{count_line};
-ghost use Rattle.bearoff_cli.specs.Kinds.{IsBuiltOf, WritesBuiltOf, file_as, file_of, greatest, stated_file};
-ghost use Rattle.bearoff_cli.specs.RefusedFiles.{KeepsIfRefused, KeepsIfTold};
-ghost use Rattle.bearoff_cli.specs.Requests.{Asks, IsDone};
-ghost use Rattle.bearoff_cli.specs.StoppedRuns.{AreStopped, IsAboutEnd, IsEndOf, IsNothingOr, IsRefusalOf};
-ghost use Rattle.bearoff_cli.specs.StoppedRuns.{IsUnreadEnd, LeavesLevels, LeavesLine, LeavesReplies, SaysUpgradedPart};
+ghost use Rattle.bearoff_cli.specs.Kinds.{IsBuiltOf, WritesBuiltOf, file_as, greatest, stated_file, file_of};
+ghost use Rattle.bearoff_cli.specs.Requests.{EndsAs, EndsBy, IsDone};
+ghost use Rattle.bearoff_cli.specs.StoppedRuns.{AreStopped, IsAboutEnd, IsEndOf, IsNothingOr, IsRefusalOf, IsUnreadEnd};
+ghost use Rattle.bearoff_cli.specs.StoppedRuns.{LeavesLevels, LeavesLine, LeavesReplies, SaysUpgradedPart};
 ghost use Rattle.bearoff_cli.specs.declared.act.Done.TheVariants.{Built};
 ghost use Rattle.bearoff_cli.specs.declared.act.ProgramFault.TheVariants.{Failed};
 ghost use Rattle.bearoff_cli.specs.declared.act.Report.TheVariants.{Count, Levels};
@@ -51,8 +46,8 @@ use arrayvec::ArrayString;
 use certificate::{CheckFault, Checked, check};
 use clap::Error;
 use clap::error::ErrorKind;
-use command_line::{FileKind, Request, read_words};
-use db_layout::{COMPACT_VERSION, WriteFault};
+use command_line::{Request, read_words};
+use db_layout::{COMPACT_VERSION, Kind, WriteFault};
 use db_reader::{FileSource, Paged, Table, Whole};
 use epc_query::run;
 use itoa::Buffer;
@@ -92,20 +87,11 @@ where
         × ((result ≡ status_of fault) × MayTell (map S.text words.entry.now) fault text
         × AppendsPart (E.contents errors.old) (E.contents errors.new) text) }
     ensures refused { 1 < result → O.contents output.new ≡ O.contents output.old }
-    ensures fault { (asked : Asked) → Asks (map S.text words.entry.now) asked → 0 < result
-        → (fault : Fault) × (text : List ℕ) × ((result ≡ status_of fault)
-        × Tells asked fault text
-        × AppendsPart (E.contents errors.old) (E.contents errors.new) text
-        × IsEndOf (IsReadFrom R.File.remaining untold_paths None) asked
+    ensures ends { (asked : Asked) → Asks (map S.text words.entry.now) asked
+        → EndsBy R.File.remaining ⟦<BufWriter<R::File> as Write>⟧.contents untold_paths None
+        (AppendsPart (E.contents errors.old) (E.contents errors.new))
         (I.remaining input.old) (I.remaining input.new)
-        (O.contents output.old) (O.contents output.new) fault) }
-    ensures done { (asked : Asked) → Asks (map S.text words.entry.now) asked → result ≡ 0
-        → IsDone (IsReadFrom R.File.remaining untold_paths None)
-        ⟦<BufWriter<R::File> as Write>⟧.contents asked
-        (I.remaining input.old) (I.remaining input.new)
-        (O.contents output.old) (O.contents output.new) }
-    ensures unread { (asked : Asked) → Asks (map S.text words.entry.now) asked
-        → LeavesInput asked (I.remaining input.old) (I.remaining input.new) }
+        (O.contents output.old) (O.contents output.new) result asked }
     ensures other { (I.remaining input.new ≡ I.remaining input.old)
         ⊎ ((asked : Asked) × IsAskedBy (map S.text words.entry.now) asked
         × LeavesInput asked (I.remaining input.old) (I.remaining input.new)) }
@@ -140,27 +126,18 @@ pub fn act_on<D: Disk, S: AsStr, I: Read, O: Write, E: Write>(
         × MayTell (map S.text words.entry.now) fault text × IsWritten result.line
         (E.contents errors.old) (E.contents errors.new) text) }
     ensures refused { 1 < result.status → O.contents output.new ≡ O.contents output.old }
-    ensures fault { (asked : Asked) → Asks (map S.text words.entry.now) asked
-        → 0 < result.status → (fault : Fault) × (text : List ℕ)
-        × ((result.status ≡ status_of fault) × Tells asked fault text × IsWritten result.line
-        (E.contents errors.old) (E.contents errors.new) text
-        × IsEndOf (IsReadFrom D.Reader.remaining
-        (D.paths disk.old) (D.told disk.old)) asked (I.remaining input.old) (I.remaining input.new)
-        (O.contents output.old) (O.contents output.new) fault) }
-    ensures done { (asked : Asked) → Asks (map S.text words.entry.now) asked
-        → result.status ≡ 0
-        → IsDone (IsReadFrom D.Reader.remaining
-        (D.paths disk.old) (D.told disk.old)) ⟦<BufWriter<D::File> as Write>⟧.contents asked
+    ensures ends { (asked : Asked) → Asks (map S.text words.entry.now) asked
+        → EndsBy D.Reader.remaining ⟦<BufWriter<D::File> as Write>⟧.contents
+        (D.paths disk.old) (D.told disk.old)
+        (IsWritten result.line (E.contents errors.old) (E.contents errors.new))
         (I.remaining input.old) (I.remaining input.new)
-        (O.contents output.old) (O.contents output.new) }
+        (O.contents output.old) (O.contents output.new) result.status asked }
     ensures put { (asked : Asked) → Asks (map S.text words.entry.now) asked
         → result.status ≡ 0
         → PutsFor (D.paths disk.old) asked (D.told disk.old) (D.told disk.new) }
     ensures stays { 1 < result.status → D.told disk.new ≡ D.told disk.old }
     ensures leaves { (asked : Asked) → Asks (map S.text words.entry.now) asked
         → LeavesFor (D.paths disk.old) asked (D.told disk.old) (D.told disk.new) }
-    ensures unread { (asked : Asked) → Asks (map S.text words.entry.now) asked
-        → LeavesInput asked (I.remaining input.old) (I.remaining input.new) }
     ensures other { LeavesBy (D.paths disk.old) (map S.text words.entry.now)
         (D.told disk.old) (D.told disk.new) (I.remaining input.old) (I.remaining input.new) }
 {
@@ -274,24 +251,13 @@ fn perform<'a, D: Disk, S: AsStr, I: Read, O: Write>(
     output: &mut O,
 ) -> Result<(), ProgramFault<'a>>
     ensures refused { KeepsIfTold result (O.contents output.old) (O.contents output.new) }
-    ensures fault { (asked : Asked) → Asks (map S.text words.entry.now) asked
-        → IfErr result (λ refusal. IsRefusalOf (IsReadFrom D.Reader.remaining
-        (D.paths disk.old) (D.told disk.old)) asked
+    ensures ends { (asked : Asked) → Asks (map S.text words.entry.now) asked
+        → EndsAs D.Reader.remaining ⟦<BufWriter<D::File> as Write>⟧.contents
+        (D.paths disk.old) (D.told disk.old) (D.told disk.new)
         (I.remaining input.old) (I.remaining input.new)
-        (O.contents output.old) (O.contents output.new) refusal) }
+        (O.contents output.old) (O.contents output.new) result asked }
     ensures explained { IfErr result (IsExplainedFor (map S.text words.entry.now)) }
-    ensures done { (asked : Asked) → Asks (map S.text words.entry.now) asked
-        → OnOk result (IsDone (IsReadFrom D.Reader.remaining
-        (D.paths disk.old) (D.told disk.old)) ⟦<BufWriter<D::File> as Write>⟧.contents asked
-        (I.remaining input.old) (I.remaining input.new)
-        (O.contents output.old) (O.contents output.new)) }
-    ensures put { (asked : Asked) → Asks (map S.text words.entry.now) asked
-        → OnOk result (PutsFor (D.paths disk.old) asked (D.told disk.old) (D.told disk.new)) }
     ensures stays { KeepsIfTold result (D.told disk.old) (D.told disk.new) }
-    ensures leaves { (asked : Asked) → Asks (map S.text words.entry.now) asked
-        → LeavesFor (D.paths disk.old) asked (D.told disk.old) (D.told disk.new) }
-    ensures unread { (asked : Asked) → Asks (map S.text words.entry.now) asked
-        → LeavesInput asked (I.remaining input.old) (I.remaining input.new) }
     ensures other { LeavesBy (D.paths disk.old) (map S.text words.entry.now)
         (D.told disk.old) (D.told disk.new) (I.remaining input.old) (I.remaining input.new) }
 {
@@ -420,7 +386,7 @@ fn answer_default<I: Read, O: Write>(
     probe_stack(alloc)?;
     let mut bytes = Vec::new(alloc);
     build(alloc, DEFAULT_BOUND, &mut bytes)?;
-    answer_bytes(alloc, FileKind::Database, bytes.as_slice(), input, output)
+    answer_bytes(alloc, Kind::Database, bytes.as_slice(), input, output)
 }
 
 /// Answers each line of the input over a file, which is read whole, of a kind, or of that which its
@@ -429,7 +395,7 @@ fn answer_default<I: Read, O: Write>(
 fn answer_file<D: Disk, I: Read, O: Write>(
     disk: &mut D,
     alloc: Global,
-    kind: Option<FileKind>,
+    kind: Option<Kind>,
     path: &str,
     input: &mut I,
     output: &mut O,
@@ -485,7 +451,7 @@ fn answer_pages<D: Disk, I: Read, O: Write>(
 /// Answers each line of the input over the file in bytes.
 fn answer_bytes<I: Read, O: Write>(
     alloc: Global,
-    kind: FileKind,
+    kind: Kind,
     bytes: &[u8],
     input: &mut I,
     output: &mut O,
@@ -569,7 +535,7 @@ fn accepted<T: Table>(
 fn write_built<D: Disk, O: Write>(
     disk: &mut D,
     alloc: Global,
-    kind: FileKind,
+    kind: Kind,
     pips: u8,
     path: &str,
     output: &mut O,
@@ -613,7 +579,7 @@ enum Report {
 fn report_file<D: Disk, O: Write>(
     disk: &mut D,
     alloc: Global,
-    kind: FileKind,
+    kind: Kind,
     path: &str,
     report: Report,
     output: &mut O,
@@ -704,14 +670,14 @@ fn explained<'a>(path: &'a str, unread: Unread) -> ProgramFault<'a>
 /// line.
 // so that the room of the ranks is not part of its caller's
 #[inline(never)]
-fn about_text(kind: FileKind, version: u16, pips: u8) -> ArrayString<96>
+fn about_text(kind: Kind, version: u16, pips: u8) -> ArrayString<96>
     ensures { result.bytes ≡ about_text kind version pips (count_to pips) }
 {
     let mut text: ArrayString<96> = ArrayString::new();
     text.push_str("kind ");
     text.push_str(match kind {
-        FileKind::Database => "database",
-        FileKind::Board => "board file",
+        Kind::Database => "database",
+        Kind::Board => "board file",
     });
     text.push_str("\nversion ");
     text.push_str(Buffer::new().format(version));

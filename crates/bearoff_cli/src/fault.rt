@@ -4,8 +4,7 @@ ghost use Rattle.std.specs.Prelude.{◌≡◌, ◌≤◌, length, OnOk};
 ghost use Rattle.std.specs.Io.KnownBytes.{Appends};
 ghost use Rattle.db_layout.specs.Writes.{AppendsPart};
 ghost use Rattle.bearoff_cli.specs.Causes.{of_check, of_build, of_upgrade, of_run};
-ghost use Rattle.bearoff_cli.specs.Lines.{word_of, error_line};
-ghost use Rattle.bearoff_cli.specs.Statuses.{status_of};
+ghost use Rattle.bearoff_cli.specs.Lines.{word_of, error_line, status_of};
 ghost use Rattle.bearoff_cli.specs.declared.fault.Fault.TheVariants.{Memory, Refused};
 
 use arrayvec::ArrayString;

@@ -1,14 +1,14 @@
 //! Files, read and written by blocks.
-ghost use Rattle.std.specs.Prelude.{◌≡◌, ◌≤◌, length, take, Ok, Err, IfOk, IfErr, OnOk, OnErr};
+ghost use Rattle.std.specs.Prelude.{◌≡◌, ℕ, ◌≤◌, length, take, Ok, Err, IfOk, IfErr, OnOk, OnErr};
 ghost use Rattle.std.specs.Io.KnownBytes.{Appends, Consumes, IsAtEnd, Keeps};
-ghost use Rattle.bearoff_cli.specs.Statuses.{status_of};
+ghost use Rattle.bearoff_cli.specs.Lines.{status_of};
 ghost use Rattle.bearoff_cli.specs.declared.fault.Fault.TheVariants.{File, Write, Memory};
 ghost use Rattle.retrograde.specs.BuiltBoards.{IsBuiltBoard};
 ghost use Rattle.bearoff_cli.specs.Faults.{IsBuildFault, IsReadFault, IsUpgradeFault, of_unread};
 ghost use Rattle.bearoff_cli.specs.FileAnswers.{IsHandedTo, IsReadFrom};
-ghost use Rattle.bearoff_cli.specs.Kinds.{IsBuiltOf, WritesBuiltOf, greatest};
+ghost use Rattle.bearoff_cli.specs.Kinds.{IsBuiltOf, Makes, WritesBuiltOf, greatest};
 ghost use Rattle.bearoff_cli.specs.PutFiles.{IsEnded, KeepsBehind};
-ghost use Rattle.command_line.specs.declared.words.FileKind.TheVariants.{Database, Board};
+ghost use Rattle.db_layout.specs.declared.stated.Kind.{Kind};
 ghost use Rattle.race_model.specs.Versions.{full};
 ghost use Rattle.db_layout.specs.Writes.{AppendsPart};
 ghost use Rattle.db_reader.specs.Telling.{WhereTold};
@@ -21,8 +21,7 @@ ghost use Rattle.whole_file.specs.Puts.{Puts};
 
 use crate::fault::Fault;
 use certificate::Checked;
-use command_line::FileKind;
-use db_layout::{BoardHeader, write_bytes};
+use db_layout::{BoardHeader, Kind, write_bytes};
 use db_reader::Table;
 use retrograde::{ReadyBuild, build_board};
 use std::alloc::{AllocError, Global};
@@ -230,7 +229,7 @@ fn of_draft(fault: DraftFault) -> Fault
 pub fn build_file<D: Disk>(
     disk: &mut D,
     alloc: Global,
-    kind: FileKind,
+    kind: Kind,
     pips: u8,
     path: &str,
 ) -> Result<(), Fault>
@@ -243,59 +242,52 @@ pub fn build_file<D: Disk>(
     ensures kept { KeepsBehind (D.paths disk.old) path.now (IsBuiltOf kind pips)
         (D.told disk.old) (D.told disk.new) }
 {
-    match kind {
-        FileKind::Database => build_database(disk, alloc, pips, path),
-        FileKind::Board => build_board_file(disk, alloc, pips, path),
-    }
-}
-
-/// Writes the database of a pip bound into a file.
-fn build_database<D: Disk>(disk: &mut D, alloc: Global, pips: u8, path: &str) -> Result<(), Fault>
-    ensures cause { pips ≤ 58 → IfErr result IsBuildFault }
-    ensures built { OnOk result (IsHandedTo ⟦<BufWriter<D::File> as Write>⟧.contents
-        (WritesBuiltOf Database pips)) }
-    ensures paths { D.paths disk.new ≡ D.paths disk.old }
-    ensures put { OnOk result (Puts (D.paths disk.old) path.now (IsBuiltOf Database pips)
-        (D.told disk.old) (D.told disk.new)) }
-    ensures kept { KeepsBehind (D.paths disk.old) path.now (IsBuiltOf Database pips)
-        (D.told disk.old) (D.told disk.new) }
-{
     let room = stack_room(alloc)?;
-    let ready = ReadyBuild::new(alloc, pips)?;
+    let ready = ready_build(alloc, kind, pips)?;
     let mut draft = begin_file(disk, alloc, path)?;
     drop(room);
     let written = build_into(ready, &mut draft.writer);
     finish_file(disk, draft, written)
 }
 
-/// Writes the database of a build that has its memory, to its last byte.
-fn build_into<O: Write>(ready: ReadyBuild, output: &mut O) -> Result<(), Fault>
-    ensures cause { ready ≤ 58 → IfErr result IsBuildFault }
-    ensures built { OnOk result (WritesBuiltOf Database ready (O.contents output.old)
-        (O.contents output.new)) }
-{
-    ready.write(output)?;
-    flush(output)
+/// A build that has taken its memory.
+#[derive(Drop)]
+enum Ready {
+    /// That of a database.
+    Database(ReadyBuild),
+
+    /// That of the board file of a pip bound, which is made in a room of as many bytes.
+    Board { pips: u8, room: Vec<u8> },
 }
 
-/// Writes the board file of a pip bound into a file. It is made in memory, of which it needs as
-/// much as it is long.
-fn build_board_file<D: Disk>(disk: &mut D, alloc: Global, pips: u8, path: &str) -> Result<(), Fault>
-    ensures cause { IfErr result IsBuildFault }
-    ensures built { OnOk result (IsHandedTo ⟦<BufWriter<D::File> as Write>⟧.contents
-        (WritesBuiltOf Board pips)) }
-    ensures paths { D.paths disk.new ≡ D.paths disk.old }
-    ensures put { OnOk result (Puts (D.paths disk.old) path.now (IsBuiltOf Board pips)
-        (D.told disk.old) (D.told disk.new)) }
-    ensures kept { KeepsBehind (D.paths disk.old) path.now (IsBuiltOf Board pips)
-        (D.told disk.old) (D.told disk.new) }
+/// Takes the memory of a build.
+fn ready_build(alloc: Global, kind: Kind, pips: u8) -> Result<Ready, Fault>
+    ensures cause { pips ≤ greatest kind → IfErr result IsBuildFault }
+    ensures made { IfOk result (λ ready. Makes ready kind pips) }
 {
-    let room = stack_room(alloc)?;
-    let mut file = board_room(alloc, pips)?;
-    let mut draft = begin_file(disk, alloc, path)?;
-    drop(room);
-    let written = build_board_into(pips, &mut file, &mut draft.writer);
-    finish_file(disk, draft, written)
+    match kind {
+        Kind::Database => Ok(Ready::Database(ReadyBuild::new(alloc, pips)?)),
+        Kind::Board => {
+            let room = board_room(alloc, pips)?;
+            Ok(Ready::Board { pips, room })
+        }
+    }
+}
+
+/// Writes the file of a build, to its last byte.
+fn build_into<O: Write>(ready: Ready, output: &mut O) -> Result<(), Fault>
+    ensures cause { (kind : Kind) (pips : ℕ) → Makes ready kind pips → pips ≤ greatest kind
+        → IfErr result IsBuildFault }
+    ensures built { (kind : Kind) (pips : ℕ) → Makes ready kind pips
+        → OnOk result (WritesBuiltOf kind pips (O.contents output.old) (O.contents output.new)) }
+{
+    match ready {
+        Ready::Database(database) => {
+            database.write(output)?;
+            flush(output)
+        }
+        Ready::Board { pips, mut room } => write_flushed(whole_board(pips, &mut room)?, output),
+    }
 }
 
 /// As many bytes as the board file of a pip bound has.
@@ -307,16 +299,6 @@ fn board_room(alloc: Global, pips: u8) -> Result<Vec<u8>, Fault>
         None => 0,
     };
     Ok(vec![in alloc; 0; size]?)
-}
-
-/// Writes the board file of a pip bound, to its last byte. It is made in a room that has as many
-/// bytes.
-fn build_board_into<O: Write>(pips: u8, room: &mut Vec<u8>, output: &mut O) -> Result<(), Fault>
-    ensures cause { IfErr result IsBuildFault }
-    ensures built { OnOk result (WritesBuiltOf Board pips (O.contents output.old)
-        (O.contents output.new)) }
-{
-    write_flushed(whole_board(pips, room)?, output)
 }
 
 /// The board file of a pip bound, made in a room that has as many bytes.

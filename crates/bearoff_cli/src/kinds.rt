@@ -1,7 +1,6 @@
 //! The two kinds of file that a command is given, a database and a board file, and what is done
 //! with the bytes of each.
-ghost use Rattle.std.specs.Prelude.{◌≡◌, ℕ, suc, ◌≤◌, List, Option};
-ghost use Rattle.std.specs.Prelude.{IfOk, IfErr, IsOk, OnOk, OnErr};
+ghost use Rattle.std.specs.Prelude.{◌≡◌, ℕ, suc, ◌≤◌, List, Option, IfOk, IfErr, IsOk, OnOk, OnErr};
 ghost use Rattle.ranking.specs.Tables.{IsRankTable};
 ghost use Rattle.db_reader.specs.Telling.{WhereTold};
 ghost use Rattle.certificate.specs.declared.check_fault.CheckFault.{CheckFault};
@@ -10,18 +9,15 @@ ghost use Rattle.epc_query.specs.Runs.{IsRunStopped};
 ghost use Rattle.epc_query.specs.UsedReads.{HasUsed};
 ghost use Rattle.bearoff_cli.specs.Causes.{of_check};
 ghost use Rattle.bearoff_cli.specs.declared.fault.Fault.TheVariants.{Write};
-ghost use Rattle.bearoff_cli.specs.Faults.{IsAnswerFault, IsFirstBy};
-ghost use Rattle.bearoff_cli.specs.FileAnswers.{WritesLevel, WritesLevels, version_in};
-ghost use Rattle.bearoff_cli.specs.InputAnswers.{AreAnswered};
-ghost use Rattle.bearoff_cli.specs.Kinds.{IsKept, file_as, file_of, greatest, stated_kind};
+ghost use Rattle.bearoff_cli.specs.Faults.{IsAnswerFault, IsFirstBy, UsesTurns};
+ghost use Rattle.bearoff_cli.specs.FileAnswers.{WritesLevel, WritesLevels, version_in, AreAnswered};
+ghost use Rattle.bearoff_cli.specs.Kinds.{IsKept, file_as, greatest, stated_kind, file_of};
 ghost use Rattle.bearoff_cli.specs.StoppedRuns.{AreStopped, WritesLevelPart, WritesLevelsPart};
-ghost use Rattle.bearoff_cli.specs.Turns.{UsesTurns};
 
 use crate::fault::Fault;
 use crate::files::flush;
 use certificate::check_board;
-use command_line::FileKind;
-use db_layout::{BOARD_BOUND, BOARD_VERSION, BoardHeader, read_short};
+use db_layout::{BOARD_BOUND, BOARD_VERSION, BoardHeader, Kind, read_short};
 use epc_query::laws::law_level_text;
 use epc_query::{
     Accepted, Board, BoardText, Database, RunFault, Text, board_level, put_board_level, run_lines,
@@ -42,32 +38,32 @@ const VERSION_PLACE: usize = 8;
 const VERSION_END: usize = VERSION_PLACE + 2;
 
 /// The greatest pip bound of a file of a kind.
-pub fn greatest(kind: FileKind) -> u8
+pub fn greatest(kind: Kind) -> u8
     ensures { result ≡ greatest kind }
 {
     match kind {
-        FileKind::Database => MAX_BOUND,
-        FileKind::Board => BOARD_BOUND,
+        Kind::Database => MAX_BOUND,
+        Kind::Board => BOARD_BOUND,
     }
 }
 
 /// The kind that the header of a file states: a board file where its version is 3, and else, also
 /// where it has no version, a database.
 #[tactic(auto, unfolding(crate::specs::Kinds::stated_kind))]
-pub fn stated_kind(bytes: &[u8]) -> FileKind
+pub fn stated_kind(bytes: &[u8]) -> Kind
     ensures { result ≡ stated_kind bytes.now }
 {
     if bytes.len() < VERSION_END {
-        return FileKind::Database;
+        return Kind::Database;
     }
     match read_short(bytes, VERSION_PLACE) {
-        BOARD_VERSION => FileKind::Board,
-        _ => FileKind::Database,
+        BOARD_VERSION => Kind::Board,
+        _ => Kind::Database,
     }
 }
 
 /// The given kind, or that which the header of a file states.
-pub fn kind_of(given: Option<FileKind>, bytes: &[u8]) -> FileKind
+pub fn kind_of(given: Option<Kind>, bytes: &[u8]) -> Kind
     ensures { file_of result bytes.now ≡ file_as given bytes.now }
 {
     match given {
@@ -77,7 +73,7 @@ pub fn kind_of(given: Option<FileKind>, bytes: &[u8]) -> FileKind
 }
 
 /// What is kept of bytes that are a right file of this kind.
-pub fn accept(kind: FileKind, bytes: &[u8]) -> Result<Accepted, Fault>
+pub fn accept(kind: Kind, bytes: &[u8]) -> Result<Accepted, Fault>
     ensures right { OnOk result (IsRightBy (file_of kind bytes.now)) }
     ensures kept { IfOk result (λ kept. IsKept kind kept bytes.now) }
     ensures bound { IfOk result (λ kept. kept.bound ≡ bound_by (file_of kind bytes.now)) }
@@ -86,11 +82,11 @@ pub fn accept(kind: FileKind, bytes: &[u8]) -> Result<Accepted, Fault>
         × IsFirstBy (file_of kind bytes.now) cause × (fault ≡ of_check cause)) }
 {
     match kind {
-        FileKind::Database => match epc_query::accept(bytes) {
+        Kind::Database => match epc_query::accept(bytes) {
             Ok(kept) => Ok(kept),
             Err(fault) => Err(Fault::from(fault)),
         },
-        FileKind::Board => match check_board(bytes) {
+        Kind::Board => match check_board(bytes) {
             Ok(header) => Ok(Accepted {
                 version: BOARD_VERSION,
                 bound: header.bound,
@@ -101,12 +97,12 @@ pub fn accept(kind: FileKind, bytes: &[u8]) -> Result<Accepted, Fault>
 }
 
 /// The version of bytes that were accepted.
-pub fn version(kind: FileKind, kept: Accepted) -> u16
+pub fn version(kind: Kind, kept: Accepted) -> u16
     ensures { (file : List ℕ) → IsKept kind kept file → result ≡ version_in (file_of kind file) }
 {
     match kind {
-        FileKind::Database => kept.version,
-        FileKind::Board => BOARD_VERSION,
+        Kind::Database => kept.version,
+        Kind::Board => BOARD_VERSION,
     }
 }
 
@@ -114,7 +110,7 @@ pub fn version(kind: FileKind, kept: Accepted) -> u16
 // so that its room is not on the stack while the bytes are checked
 #[inline(never)]
 pub fn answer<I: Read, O: Write>(
-    kind: FileKind,
+    kind: Kind,
     kept: Accepted,
     alloc: Global,
     bytes: &[u8],
@@ -141,7 +137,7 @@ pub fn answer<I: Read, O: Write>(
 
 /// Answers each line of the input over bytes that were accepted, as far as `run_lines` does.
 fn run_kept<I: Read, O: Write>(
-    kind: FileKind,
+    kind: Kind,
     kept: Accepted,
     alloc: Global,
     bytes: &[u8],
@@ -162,11 +158,11 @@ fn run_kept<I: Read, O: Write>(
 {
     let ranks = RankTable::new();
     match kind {
-        FileKind::Database => {
+        Kind::Database => {
             let mut database = Database::kept(bytes, kept, &ranks);
             run_lines(alloc, &mut database, &mut Text::new(), input, output, TURNS)
         }
-        FileKind::Board => {
+        Kind::Board => {
             let header = BoardHeader::new(kept.bound).unwrap();
             let mut board = Board::accepted(bytes, header, &ranks);
             run_lines(
@@ -204,7 +200,7 @@ pub fn handed_on<O: Write>(cause: RunFault, output: &mut O) -> RunFault
 // so that its room is not on the stack while the bytes are checked
 #[inline(never)]
 pub fn write_levels<O: Write>(
-    kind: FileKind,
+    kind: Kind,
     kept: Accepted,
     bytes: &[u8],
     output: &mut O,
@@ -228,7 +224,7 @@ pub fn write_levels<O: Write>(
 
 /// Writes the line of a pip count of bytes that were accepted, by a table of ranks.
 fn write_level<O: Write>(
-    kind: FileKind,
+    kind: Kind,
     kept: Accepted,
     bytes: &[u8],
     ranks: &RankTable,
@@ -247,13 +243,13 @@ fn write_level<O: Write>(
         (O.contents output.old) (O.contents output.new)) }
 {
     match kind {
-        FileKind::Database => {
+        Kind::Database => {
             law_level_text();
             let database = Database::kept(bytes, kept, ranks);
             let level = database.level(pips).unwrap();
             epc_query::write_level(&level, output).map_err(|_| Fault::Write)
         }
-        FileKind::Board => {
+        Kind::Board => {
             let header = BoardHeader::new(kept.bound).unwrap();
             let board = Board::accepted(bytes, header, ranks);
             let level = board_level(&board, pips).unwrap();

@@ -7,21 +7,21 @@ use std::io::{self, Write};
 
 /// What the lines ask.
 #[derive(Clone, Copy)]
-pub(crate) enum Kind {
+pub(crate) enum Question {
     Mean,
     Dist,
     Play,
     Moves,
 }
 
-impl Kind {
+impl Question {
     /// The kind of line that a word names.
     pub(crate) fn of(word: &str) -> Option<Self> {
         match word {
-            "mean" => Some(Kind::Mean),
-            "dist" => Some(Kind::Dist),
-            "play" => Some(Kind::Play),
-            "moves" => Some(Kind::Moves),
+            "mean" => Some(Question::Mean),
+            "dist" => Some(Question::Dist),
+            "play" => Some(Question::Play),
+            "moves" => Some(Question::Moves),
             _ => None,
         }
     }
@@ -29,18 +29,18 @@ impl Kind {
     /// The first word of the line.
     fn word(self) -> &'static str {
         match self {
-            Kind::Mean => "mean ",
-            Kind::Dist => "dist ",
-            Kind::Play => "play ",
-            Kind::Moves => "moves ",
+            Question::Mean => "mean ",
+            Question::Dist => "dist ",
+            Question::Play => "play ",
+            Question::Moves => "moves ",
         }
     }
 
     /// Whether the line names a roll.
     fn has_roll(self) -> bool {
         match self {
-            Kind::Mean | Kind::Dist => false,
-            Kind::Play | Kind::Moves => true,
+            Question::Mean | Question::Dist => false,
+            Question::Play | Question::Moves => true,
         }
     }
 }
@@ -56,7 +56,7 @@ pub(crate) enum Order {
 /// positions of random lines come from a generator that begins alike each time.
 pub(crate) fn lines_of(
     alloc: Global,
-    kind: Kind,
+    kind: Question,
     order: Order,
     count: u32,
     pips: u8,
@@ -84,7 +84,7 @@ pub(crate) fn lines_of(
 fn add_line(
     lines: &mut Vec<u8>,
     ranks: &Ranks,
-    kind: Kind,
+    kind: Question,
     rank: u16,
     roll: u8,
 ) -> Result<(), AllocError> {

@@ -25,7 +25,7 @@ use db_reader::{Paged, SliceSource, Table};
 use epc_query::{Answers, Database, Text, run_lines};
 use home_board::OLD_BOUND;
 use legal_plays::{Roll, results};
-use lines::{Counter, Kind, Order, lines_of};
+use lines::{Counter, Order, Question, lines_of};
 use ranking::{RankTable, Ranks};
 use retrograde::build;
 use std::alloc::Global;
@@ -44,8 +44,8 @@ enum Work {
     Build,
     Check,
     Ties,
-    Answer(Kind),
-    Text(Kind),
+    Answer(Question),
+    Text(Question),
 }
 
 /// What the words ask for.
@@ -90,7 +90,7 @@ fn read_word(request: &mut Request, word: &str) {
         "build" => request.work = Work::Build,
         "check" => request.work = Work::Check,
         "ties" => request.work = Work::Ties,
-        "text" => request.work = Work::Text(Kind::Mean),
+        "text" => request.work = Work::Text(Question::Mean),
         "pages" => request.is_paged = true,
         "sorted" => request.order = Order::Sorted,
         word => read_kind_or_number(request, word),
@@ -99,7 +99,7 @@ fn read_word(request: &mut Request, word: &str) {
 
 /// Takes a word that names a kind of line, or a number.
 fn read_kind_or_number(request: &mut Request, word: &str) {
-    if let Some(kind) = Kind::of(word) {
+    if let Some(kind) = Question::of(word) {
         request.work = match request.work {
             Work::Text(_) => Work::Text(kind),
             _ => Work::Answer(kind),
@@ -123,7 +123,7 @@ fn report_results(rt: &impl Print, bound: u8) -> io::Result<()> {
     )
 }
 
-fn write_lines(rt: &impl Print, alloc: Global, kind: Kind, request: Request) -> io::Result<()> {
+fn write_lines(rt: &impl Print, alloc: Global, kind: Question, request: Request) -> io::Result<()> {
     let lines = lines_of(alloc, kind, request.order, request.count, request.bound)?;
     io::writer(rt).write_all(lines.as_slice())
 }
@@ -203,7 +203,7 @@ fn report_lines<R: Print + Clock, A: Answers<12288>>(
     rt: &R,
     alloc: Global,
     request: Request,
-    kind: Kind,
+    kind: Question,
     answers: &mut A,
 ) -> io::Result<()> {
     let lines = lines_of(alloc, kind, request.order, request.count, request.bound)?;

@@ -1,6 +1,5 @@
 -- `--board`, and then a file.
-use Rattle.std.proofs.Common.{◌≡◌, ◌∙◌, ◌==◌, ◌&&◌, cond, ℕ, true, refl, ap, ap₂, List}
-use Rattle.std.proofs.Common.{[], ◌∷◌, Some, None, codes}
+use Rattle.std.proofs.Common.{◌≡◌, ◌∙◌, ◌==◌, ◌&&◌, cond, ℕ, true, refl, ap, ap₂, List, [], ◌∷◌, Some, None, codes}
 use Rattle.std.specs.Str.{bytes_eq}
 use Rattle.clap.specs.Words.{App, Text, built, first_of, matches_of, one_of, takes}
 use Rattle.clap.specs.Simple.{filled}
@@ -10,8 +9,8 @@ use Rattle.clap.specs.Takes.{step_passes, turn_passes, walk_passes}
 use Rattle.clap.proofs.OnLiterals.{clap_on_literals}
 use Rattle.command_line.specs.Asked.{IsPlain, Writes, flagged, kind_in}
 use Rattle.command_line.specs.Commands.{board_rule, build_app, file_app, query_app}
-use Rattle.command_line.specs.declared.words.FileKind.{FileKind}
-use Rattle.command_line.specs.declared.words.FileKind.TheVariants.{Database, Board}
+use Rattle.db_layout.specs.declared.stated.Kind.{Kind}
+use Rattle.db_layout.specs.declared.stated.Kind.TheVariants.{Database, Board}
 use Rattle.command_line.proofs.Numbers.{numeral_is_plain}
 use Rattle.command_line.proofs.PlainWords.{bare_first, bare_none, bare_takes, file_first, file_takes, is_false}
 use Rattle.command_line.proofs.PlainWords.{plain_turn, plain_walked, taken, walk_at}
@@ -33,7 +32,7 @@ number_kind n digits path w plain =
     plain_kind digits (path ∷ []) (numeral_is_plain digits w.0) ∙ plain_kind path [] plain
 
 -- the words for a file of a kind speak of it
-pub flagged_kind : (kind : FileKind) (path : Text) → IsPlain path
+pub flagged_kind : (kind : Kind) (path : Text) → IsPlain path
     → kind_in (flagged kind (path ∷ [])) ≡ kind
 flagged_kind Database path plain = plain_kind path [] plain
 flagged_kind Board path plain = refl
@@ -174,28 +173,28 @@ module _ (path : Text) (plain : IsPlain path) where
 -- ---- a file of a kind
 
 -- a command of some name takes the words, and gives the path
-pub kind_takes : (name : Text) (kind : FileKind) (path : Text) → IsPlain path
+pub kind_takes : (name : Text) (kind : Kind) (path : Text) → IsPlain path
     → takes (file_app name) (flagged kind (path ∷ [])) ≡ true
 kind_takes name Database path plain = file_takes name path plain
 kind_takes name Board path plain = named_takes name path plain
 
-pub kind_first : (name : Text) (kind : FileKind) (path : Text) → IsPlain path
+pub kind_first : (name : Text) (kind : Kind) (path : Text) → IsPlain path
     → first_of (codes "FILE") (matches_of (file_app name) (flagged kind (path ∷ []))) ≡ Some path
 kind_first name Database path plain = file_first name path plain
 kind_first name Board path plain = named_first name path plain
 
 -- .. so does `query`, which then gives no value of `--cache`
-pub query_kind_takes : (kind : FileKind) (path : Text) → IsPlain path
+pub query_kind_takes : (kind : Kind) (path : Text) → IsPlain path
     → takes query_app (flagged kind (path ∷ [])) ≡ true
 query_kind_takes Database path plain = bare_takes path plain
 query_kind_takes Board path plain = query_board_takes path plain
 
-pub query_kind_first : (kind : FileKind) (path : Text) → IsPlain path
+pub query_kind_first : (kind : Kind) (path : Text) → IsPlain path
     → first_of (codes "FILE") (matches_of query_app (flagged kind (path ∷ []))) ≡ Some path
 query_kind_first Database path plain = bare_first path plain
 query_kind_first Board path plain = query_board_first path plain
 
-pub query_kind_none : (kind : FileKind) (path : Text) → IsPlain path
+pub query_kind_none : (kind : Kind) (path : Text) → IsPlain path
     → one_of (codes "cache") (matches_of query_app (flagged kind (path ∷ []))) ≡ None
 query_kind_none Database path plain = bare_none path plain
 query_kind_none Board path plain = query_board_none path plain

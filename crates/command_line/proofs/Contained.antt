@@ -1,14 +1,13 @@
 -- That a text is one of some words, as a test and as a fact.
-use Rattle.std.proofs.Common.{◌≡◌, ◌<◌, ◌∙◌, ℕ, Bool, true, false, zero, suc, refl, sym, subst, cond, true≢false}
-use Rattle.std.proofs.Common.{List, [], ◌∷◌, length, arith}
-use Rattle.std.specs.Prelude.{slice_index_or}
+use Rattle.std.proofs.Common.{◌≡◌, ◌∙◌, Bool, true, false, zero, suc, refl, sym, subst, cond, true≢false, List}
+use Rattle.std.proofs.Common.{[], ◌∷◌, arith}
 use Rattle.std.specs.List.{Contains}
 use Rattle.std.specs.Str.{bytes_eq}
 use Rattle.std.proofs.lemmas.Slice.Eq.{bytes_eq-Decides}
 use Rattle.clap.specs.Words.{Text}
 use Rattle.command_line.specs.Asked.{flagged, is_word}
-use Rattle.command_line.specs.declared.words.FileKind.{FileKind}
-use Rattle.command_line.specs.declared.words.FileKind.TheVariants.{Database, Board}
+use Rattle.db_layout.specs.declared.stated.Kind.{Kind}
+use Rattle.db_layout.specs.declared.stated.Kind.TheVariants.{Database, Board}
 
 contained_by : (word text : Text) (rest : List Text) (b : Bool) → bytes_eq word text ≡ b
     → (is_word rest text ≡ true → Contains rest text)
@@ -54,6 +53,6 @@ pub third_of_them : (x y z : Text) (rest : List Text) → Contains (x ∷ y ∷ 
 third_of_them x y z rest = (2, omega arith, refl)
 
 -- a file stands behind `--board` or alone
-pub flagged_file : (kind : FileKind) (path : Text) → Contains (flagged kind (path ∷ [])) path
+pub flagged_file : (kind : Kind) (path : Text) → Contains (flagged kind (path ∷ [])) path
 flagged_file Database path = (0, omega arith, refl)
 flagged_file Board path = (1, omega arith, refl)

@@ -1,7 +1,6 @@
 -- A file and lines, none of which begins with a hyphen.
-use Rattle.std.proofs.Common.{◌≡◌, ◌∙◌, ◌&&◌, ◌++◌, true, false, true≢false, refl, sym, ap, ap₂, List, [], ◌∷◌}
-use Rattle.std.proofs.Common.{Some, None, append_assoc, append-nil, codes}
-use Rattle.std.specs.List.{Contains}
+use Rattle.std.proofs.Common.{◌≡◌, ◌∙◌, ◌&&◌, ◌++◌, true, false, refl, sym, ap, ap₂, List, [], ◌∷◌, Some}
+use Rattle.std.proofs.Common.{None, append_assoc, append-nil, codes}
 use Rattle.std.specs.Prelude.{fold}
 use Rattle.std.proofs.Math.Bool.{and-eq-true_iff}
 use Rattle.clap.specs.Words.{App, Row, Text, all_of, built, first_of, matches_of, takes}
@@ -13,8 +12,7 @@ use Rattle.clap.specs.declared.parser.matches.ValueSource.TheVariants.{CommandLi
 use Rattle.clap.proofs.OnLiterals.{clap_on_literals}
 use Rattle.command_line.specs.Asked.{ArePlain, IsPlain}
 use Rattle.command_line.specs.Commands.{ask_app, word_rule, words_rule}
-use Rattle.command_line.proofs.PlainWords.{any_met, plain_passes, plain_turn, plain_walked}
-use Rattle.command_line.proofs.PlainWords.{taken, walk_at}
+use Rattle.command_line.proofs.PlainWords.{any_met, plain_passes, plain_turn, plain_walked, taken, walk_at}
 
 abbrev ask_built : App
 ask_built = built ask_app

@@ -1,7 +1,7 @@
 -- An option with a number, and then a file.
 use Rattle.std.proofs.Common.{◌≡◌, ◌∙◌, ◌&&◌, ◌||◌, ℕ, cond, true, false, refl, ap, ap₂, List, [], ◌∷◌, Some, None}
 use Rattle.std.proofs.Common.{codes}
-use Rattle.clap.specs.Lexer.{long_of}
+use Rattle.clap.specs.Lexer.{long_of, without_minus}
 use Rattle.clap.specs.ValueTests.{accepts}
 use Rattle.clap.specs.Words.{App, Text, built, first_of, matches_of, one_of, takes}
 use Rattle.clap.specs.Simple.{Shape}
@@ -13,7 +13,6 @@ use Rattle.std.specs.Option.{option_map_or}
 use Rattle.std.specs.Prelude.{pos}
 use Rattle.clap.specs.declared.builder.value_parser.ValueParser.TheVariants as vp
 use Rattle.clap.proofs.OnLiterals.{clap_on_literals}
-use Rattle.clap.specs.Lexer.{without_minus}
 use Rattle.command_line.specs.Asked.{IsPlain}
 use Rattle.command_line.specs.Commands.{build_app, query_app}
 use Rattle.command_line.proofs.PlainWords.{no_dashes, no_long, no_short, plain_turn, plain_walked, taken, walk_at}

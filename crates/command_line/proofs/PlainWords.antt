@@ -1,16 +1,15 @@
 -- The commands, on words that do not begin with a hyphen.
-use Rattle.std.proofs.Common.{◌≡◌, ◌∙◌, ◌==◌, ◌&&◌, ◌||◌, cond, is_some, not, ℕ, Bool, true, false, suc, refl, sym}
-use Rattle.std.proofs.Common.{ap, ap₂, arith, true≢false, List, [], ◌∷◌, Option, Some, None, Result, Ok, Err, IfErr}
-use Rattle.std.proofs.Common.{IsOk, codes}
-use Rattle.std.specs.List.{Contains}
+use Rattle.std.proofs.Common.{◌≡◌, ◌∙◌, ◌==◌, ◌&&◌, ◌||◌, cond, is_some, not, ℕ, Bool, true, false, refl, sym, ap}
+use Rattle.std.proofs.Common.{ap₂, true≢false, List, [], ◌∷◌, Option, Some, None, Result, Ok, Err, IfErr, IsOk}
+use Rattle.std.proofs.Common.{codes}
+use Rattle.std.specs.List.{list_all}
 use Rattle.std.specs.Str.{bytes_eq}
 use Rattle.clap.specs.Lexer.{long_of, long_of_rest, short_of, short_of_rest, strip_byte}
 use Rattle.clap.specs.Words.{Text, all_of, one_of, one_text, first_of, first_value, found_of, is_simple, matched_of}
 use Rattle.clap.specs.Words.{HasMatchesOf, App, built, matches_of, raw_values, takes}
-use Rattle.clap.specs.Simple.{Shape, entered, names_of}
+use Rattle.clap.specs.Simple.{Shape, entered}
 use Rattle.std.specs.Prelude.{option_and_then, option_map}
 use Rattle.std.specs.Option.{option_map_or}
-use Rattle.std.specs.List.{list_all}
 use Rattle.clap.specs.Walk.{Held, Rule, Step, Waiting, Walk, idle, value, trailing, after_step, arg_by_index, finished}
 use Rattle.clap.specs.Walk.{long_or_other, nothing_held, plain_word, short_or_plain, subcommand_met}
 use Rattle.clap.specs.Walk.{subcommand_or_other, to_positional, walk, walk_from, walked, word_met}
@@ -19,7 +18,7 @@ use Rattle.clap.specs.Takes.{settle_passes, step_passes, turn_passes, walk_passe
 use Rattle.clap.specs.declared.parser.matches.ArgMatches.{ArgMatches}
 use Rattle.clap.proofs.WalkLemmas.{first_value-rows, one_text-rows, raw_values-rows}
 use Rattle.command_line.specs.Asked.{IsPlain}
-use Rattle.command_line.specs.Commands.{about_app, build_app, file_app, query_app, upgrade_app}
+use Rattle.command_line.specs.Commands.{about_app, file_app, query_app, upgrade_app}
 
 pub ok_no_err : {X E : Type 0} (r : Result X E) (P : E → Type 0) → IsOk r → IfErr r P
 ok_no_err (Ok x) P h = tt

@@ -1,29 +1,29 @@
 -- What words ask for.
-use Rattle.std.specs.Prelude.{◌≡◌, ◌⊎◌, ◌==◌, ℕ, Bool, true, false, not, cond, List, [], ◌∷◌, ◌++◌}
+use Rattle.std.specs.Prelude.{◌≡◌, ◌<◌, ◌≤◌, ◌⊎◌, ◌==◌, ℕ, Bool, true, false, not, cond, List, [], ◌∷◌, ◌++◌, Option}
+use Rattle.std.specs.Prelude.{Some, None, Result, IfOk, IfErr, codes, flat_map}
 use Rattle.std.specs.Str.Parse.{IsNumeral, digits_value}
-use Rattle.std.specs.Prelude.{Option, Result, IfOk, IfErr, codes, flat_map}
 use Rattle.std.specs.List.{Contains, list_all}
 use Rattle.std.specs.String.{string_bytes}
 use Rattle.std.specs.Str.{bytes_eq}
 use Rattle.clap.specs.Words.{Text, kind_of}
 use Rattle.clap.specs.declared.error.Error.{Error}
 use Rattle.clap.specs.declared.error.kind.ErrorKind.TheVariants.{OutOfMemory}
-use Rattle.command_line.specs.declared.words.FileKind.{FileKind}
-use Rattle.command_line.specs.declared.words.FileKind.TheVariants.{Database, Board}
+use Rattle.db_layout.specs.declared.stated.Kind.{Kind}
+use Rattle.db_layout.specs.declared.stated.Kind.TheVariants.{Database, Board}
 use Rattle.command_line.specs.declared.words.Request.{Request}
-use Rattle.command_line.specs.declared.words.Request.TheVariants.{Default, Build, Check, Query, Ask}
-use Rattle.command_line.specs.declared.words.Request.TheVariants.{About, Audit, Upgrade}
+use Rattle.command_line.specs.declared.words.Request.TheVariants.{Default, Build, Check, Query, Ask, About, Audit}
+use Rattle.command_line.specs.declared.words.Request.TheVariants.{Upgrade}
 
 -- a request with each of its texts as bytes, wherever they lie; the lines of `ask` are the text of
 -- an input
 pub data Asked : Type 0 where
   default : Asked
-  build : FileKind → ℕ → Text → Asked
-  check : FileKind → Text → Asked
-  query : FileKind → Text → Option ℕ → Asked
+  build : Kind → ℕ → Text → Asked
+  check : Kind → Text → Asked
+  query : Kind → Text → Option ℕ → Asked
   ask : Text → Text → Asked
   about : Text → Asked
-  audit : FileKind → Text → Asked
+  audit : Kind → Text → Asked
   upgrade : Text → Text → Asked
 
 -- what a request asks for
@@ -59,13 +59,50 @@ abbrev pub Writes : ℕ → Text → Type 0
 Writes n text = IsNumeral 10 text × (digits_value 10 text ≡ n)
 
 -- the words for a file of a kind: `--board` stands before those for a board file
-abbrev pub flagged : FileKind → List Text → List Text
+abbrev pub flagged : Kind → List Text → List Text
 flagged Database words = words
 flagged Board words = codes "--board" ∷ words
 
+-- the words behind a command are these of the request: `--board` for a board file or an option with
+-- its number before the file, and files and lines that don't begin with a hyphen
+abbrev pub AreUsual : Asked → List Text → Type 0
+AreUsual default words = ⊥
+AreUsual (build Database pips path) words = (digits : Text) × Writes pips digits × (pips < 256)
+    × IsPlain path × (words ≡ codes "--pips" ∷ digits ∷ path ∷ [])
+AreUsual (build Board pips path) words =
+    (pips ≡ 90) × IsPlain path × (words ≡ codes "--board" ∷ path ∷ [])
+AreUsual (check kind path) words = IsPlain path × (words ≡ flagged kind (path ∷ []))
+AreUsual (query kind path None) words = IsPlain path × (words ≡ flagged kind (path ∷ []))
+AreUsual (query Database path (Some records)) words = (digits : Text) × Writes records digits
+    × (1 ≤ records) × (records < 65536) × IsPlain path
+    × (words ≡ codes "--cache" ∷ digits ∷ path ∷ [])
+AreUsual (query Board path (Some records)) words = ⊥
+AreUsual (ask path text) words = (line : Text) × (lines : List Text) × IsPlain path
+    × ArePlain (line ∷ lines) × (text ≡ as_input (line ∷ lines)) × (words ≡ path ∷ line ∷ lines)
+AreUsual (about path) words = IsPlain path × (words ≡ path ∷ [])
+AreUsual (audit kind path) words = IsPlain path × (words ≡ flagged kind (path ∷ []))
+AreUsual (upgrade before after) words =
+    IsPlain before × IsPlain after × (words ≡ before ∷ after ∷ [])
+
+-- the name of a request's command
+abbrev pub name_of : Asked → Text
+name_of default = []
+name_of (build kind pips path) = codes "build"
+name_of (check kind path) = codes "check"
+name_of (query kind path cache) = codes "query"
+name_of (ask path lines) = codes "ask"
+name_of (about path) = codes "about"
+name_of (audit kind path) = codes "audit"
+name_of (upgrade old new) = codes "upgrade"
+
+-- the words ask for the request in the usual way: there is none, or they are its command and these
+abbrev pub Asks : List Text → Asked → Type 0
+Asks words asked = ((words ≡ []) × (asked ≡ default))
+    ⊎ ((rest : List Text) × (words ≡ name_of asked ∷ rest) × AreUsual asked rest)
+
 -- the kind of file that words speak of: a board file where `--board` is one of them, before any
 -- word `--`
-abbrev pub kind_in : List Text → FileKind
+abbrev pub kind_in : List Text → Kind
 kind_in [] = Database
 kind_in (word ∷ rest) = cond (bytes_eq word (codes "--board")) Board
     (cond (bytes_eq word (codes "--")) Database (kind_in rest))
@@ -88,7 +125,7 @@ abbrev pub Follows : Text → List Text → Text → Type 0
 Follows name words text = (rest : List Text) × (words ≡ name ∷ rest) × Contains rest text
 
 -- .. which speak of a file of this kind
-abbrev pub FollowsFor : FileKind → Text → List Text → Text → Type 0
+abbrev pub FollowsFor : Kind → Text → List Text → Text → Type 0
 FollowsFor kind name words text = (rest : List Text) × (words ≡ name ∷ rest)
     × (kind_in rest ≡ kind) × Contains rest text
 

@@ -1,5 +1,5 @@
 -- What `clap` reads of the commands.
-use Rattle.std.specs.Prelude.{◌≡◌, true, codes, Some, pos}
+use Rattle.std.specs.Prelude.{true, codes, Some, pos}
 use Rattle.clap.specs.Words.{App, Rule, Text, new_app, new_rule, with_rule}
 use Rattle.clap.specs.Simple.{on_top}
 use Rattle.clap.specs.declared.builder.action.ArgAction.TheVariants.{Append, SetTrue}
@@ -21,10 +21,6 @@ board_rule =
 -- `NAME --board FILE`
 abbrev pub file_app : Text → App
 file_app name = with_rule (with_rule (bare_app name) board_rule) (word_rule (codes "FILE"))
-
--- .. of some name
-abbrev pub IsFileApp : App → Type 0
-IsFileApp a = (name : Text) × (a ≡ file_app name)
 
 -- a required word, or more of them, which are one argument
 abbrev pub words_rule : Text → Rule

@@ -4,4 +4,4 @@
 
 mod words;
 
-pub use words::{FileKind, Request, read_words};
+pub use words::{Request, read_words};

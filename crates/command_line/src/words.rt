@@ -4,31 +4,22 @@ ghost use Rattle.std.specs.Prelude.{◌≤◌, option_map};
 ghost use Rattle.std.specs.List.{Contains};
 ghost use Rattle.std.specs.String.{string_bytes};
 ghost use Rattle.clap.specs.Words.{app_of, first_value, found_of, matched_of, raw_values};
-ghost use Rattle.command_line.specs.declared.words.FileKind.{FileKind};
-ghost use Rattle.command_line.specs.declared.words.FileKind.TheVariants.{Database, Board};
+ghost use Rattle.db_layout.specs.declared.stated.Kind.{Kind};
+ghost use Rattle.db_layout.specs.declared.stated.Kind.TheVariants.{Database, Board};
 ghost use Rattle.command_line.specs.declared.words.Request.TheVariants.{Default};
-ghost use Rattle.command_line.specs.Asked.{ArePlain, Gives, IsAskedBy, IsFor, IsPlain, Writes, as_input, asked_by};
+ghost use Rattle.command_line.specs.Asked.{AreUsual, Asked, Asks, Gives, IsAskedBy, IsFor, IsPlain, as_input, asked_by};
 ghost use Rattle.command_line.specs.Asked.{flagged, is_word, kind_in, build, check, query, ask, about, audit, upgrade};
-ghost use Rattle.command_line.specs.Commands.{IsFileApp, about_app, ask_app, bare_app, build_app, file_app};
-ghost use Rattle.command_line.specs.Commands.{query_app, upgrade_app};
+ghost use Rattle.command_line.specs.Commands.{about_app, ask_app, bare_app, build_app, file_app, query_app};
+ghost use Rattle.command_line.specs.Commands.{upgrade_app};
 
 use clap::error::ErrorKind;
 use clap::{Arg, ArgAction, ArgMatches, Command, Error, value_parser};
+use db_layout::Kind;
 use std::alloc::{AllocError, Global};
 use std::convert::AsStr;
 
 /// The pip bound of the whole home board.
 const WHOLE_BOARD: u8 = 90;
-
-/// The kinds of file that a command is given.
-#[derive(Clone, Copy, Debug, PartialEq, Eq)]
-pub enum FileKind {
-    /// A database, to 58 pips.
-    Database,
-
-    /// A board file, to 90 pips: the whole home board.
-    Board,
-}
 
 /// What the words of the command line ask for.
 #[derive(Debug, Drop)]
@@ -38,21 +29,21 @@ pub enum Request<'a> {
 
     /// Write the positions of a pip bound into a file.
     Build {
-        kind: FileKind,
+        kind: Kind,
         pips: u8,
         path: &'a str,
     },
 
     /// Check a file.
     Check {
-        kind: FileKind,
+        kind: Kind,
         path: &'a str,
     },
 
     /// Check a file, and answer standard input over it: over the whole file in memory, or, of a
     /// database alone, over so many of its records at a time.
     Query {
-        kind: FileKind,
+        kind: Kind,
         path: &'a str,
         cache: Option<u16>,
     },
@@ -71,7 +62,7 @@ pub enum Request<'a> {
 
     /// Check a file, and tell the least and the greatest mean of each pip count.
     Audit {
-        kind: FileKind,
+        kind: Kind,
         path: &'a str,
     },
 
@@ -157,35 +148,8 @@ const AUDIT: &str = "Checks FILE, then tells the least and the greatest mean of 
 pub fn read_words<'a, S: AsStr>(alloc: Global, words: &'a [S]) -> Result<Request<'a>, Error>
     ensures nothing { length words.now ≡ 0 → result ≡ Ok Default }
     ensures asked { IfOk result (λ r. IsAskedBy (map S.text words.entry.now) (asked_by r)) }
-    ensures build { (n : ℕ) (digits path : List ℕ) → Writes n digits → n < 256 → IsPlain path
-        → map S.text words.entry.now ≡ codes "build" ∷ codes "--pips" ∷ digits ∷ path ∷ []
-        → Gives result (IsFor (build Database n path)) }
-    ensures build_board { (path : List ℕ) → IsPlain path
-        → map S.text words.entry.now ≡ codes "build" ∷ codes "--board" ∷ path ∷ []
-        → Gives result (IsFor (build Board 90 path)) }
-    ensures check { (kind : FileKind) (path : List ℕ) → IsPlain path
-        → map S.text words.entry.now ≡ codes "check" ∷ flagged kind (path ∷ [])
-        → Gives result (IsFor (check kind path)) }
-    ensures query { (kind : FileKind) (path : List ℕ) → IsPlain path
-        → map S.text words.entry.now ≡ codes "query" ∷ flagged kind (path ∷ [])
-        → Gives result (IsFor (query kind path None)) }
-    ensures query_by { (n : ℕ) (digits path : List ℕ) → Writes n digits → 1 ≤ n → n < 65536
-        → IsPlain path
-        → map S.text words.entry.now ≡ codes "query" ∷ codes "--cache" ∷ digits ∷ path ∷ []
-        → Gives result (IsFor (query Database path (Some n))) }
-    ensures ask { (path line : List ℕ) (lines : List (List ℕ)) → IsPlain path
-        → ArePlain (line ∷ lines)
-        → map S.text words.entry.now ≡ codes "ask" ∷ path ∷ line ∷ lines
-        → Gives result (IsFor (ask path (as_input (line ∷ lines)))) }
-    ensures about { (path : List ℕ) → IsPlain path
-        → map S.text words.entry.now ≡ codes "about" ∷ path ∷ []
-        → Gives result (IsFor (about path)) }
-    ensures audit { (kind : FileKind) (path : List ℕ) → IsPlain path
-        → map S.text words.entry.now ≡ codes "audit" ∷ flagged kind (path ∷ [])
-        → Gives result (IsFor (audit kind path)) }
-    ensures upgrade { (old new : List ℕ) → IsPlain old → IsPlain new
-        → map S.text words.entry.now ≡ codes "upgrade" ∷ old ∷ new ∷ []
-        → Gives result (IsFor (upgrade old new)) }
+    ensures usual { (asked : Asked) → Asks (map S.text words.entry.now) asked
+        → Gives result (IsFor asked) }
 {
     let Some((first, rest)) = words.split_first() else {
         return Ok(Request::Default);
@@ -193,11 +157,17 @@ pub fn read_words<'a, S: AsStr>(alloc: Global, words: &'a [S]) -> Result<Request
     let kind = kind_in(rest);
     match first.as_str() {
         "build" => read_build(alloc, kind, rest),
-        "check" => read_check(alloc, kind, rest),
+        "check" => {
+            let path = read_file(alloc, "check", CHECK, rest)?;
+            Ok(Request::Check { kind, path })
+        }
         "query" => read_query(alloc, kind, rest),
         "ask" => read_ask(alloc, rest),
         "about" => read_about(alloc, rest),
-        "audit" => read_audit(alloc, kind, rest),
+        "audit" => {
+            let path = read_file(alloc, "audit", AUDIT, rest)?;
+            Ok(Request::Audit { kind, path })
+        }
         "upgrade" => read_upgrade(alloc, rest),
         "--" if rest.is_empty() => Ok(Request::Default),
         _ => {
@@ -209,69 +179,33 @@ pub fn read_words<'a, S: AsStr>(alloc: Global, words: &'a [S]) -> Result<Request
 
 /// The kind of file that words speak of: a board file where `--board` is one of them, before any
 /// word `--`.
-fn kind_in<S: AsStr>(words: &[S]) -> FileKind
+fn kind_in<S: AsStr>(words: &[S]) -> Kind
     ensures { result ≡ kind_in (map S.text words.entry.now) }
 {
     let mut rest = words;
     while let Some((word, after)) = rest.split_first() {
         match word.as_str() {
-            "--board" => return FileKind::Board,
-            "--" => return FileKind::Database,
+            "--board" => return Kind::Board,
+            "--" => return Kind::Database,
             _ => rest = after,
         }
     }
-    FileKind::Database
+    Kind::Database
 }
 
-/// What the words after `check` ask for, which speak of a file of this kind.
-fn read_check<'a, S: AsStr>(
-    alloc: Global,
-    kind: FileKind,
-    words: &'a [S],
-) -> Result<Request<'a>, Error>
-    requires { kind ≡ kind_in (map S.text words.now) }
-    ensures asked { IfOk result
-        (λ r. IsAskedBy (codes "check" ∷ map S.text words.entry.now) (asked_by r)) }
-    ensures given { (path : List ℕ) → IsPlain path
-        → map S.text words.entry.now ≡ flagged kind (path ∷ [])
-        → Gives result (IsFor (check kind path)) }
-{
-    let command = file_command(alloc, "check", CHECK, FILE_HELP, STATUSES)?;
-    let path = read_file(alloc, kind, command, words)?;
-    Ok(Request::Check { kind, path })
-}
-
-/// What the words after `audit` ask for, which speak of a file of this kind.
-fn read_audit<'a, S: AsStr>(
-    alloc: Global,
-    kind: FileKind,
-    words: &'a [S],
-) -> Result<Request<'a>, Error>
-    requires { kind ≡ kind_in (map S.text words.now) }
-    ensures asked { IfOk result
-        (λ r. IsAskedBy (codes "audit" ∷ map S.text words.entry.now) (asked_by r)) }
-    ensures given { (path : List ℕ) → IsPlain path
-        → map S.text words.entry.now ≡ flagged kind (path ∷ [])
-        → Gives result (IsFor (audit kind path)) }
-{
-    let command = file_command(alloc, "audit", AUDIT, FILE_HELP, STATUSES)?;
-    let path = read_file(alloc, kind, command, words)?;
-    Ok(Request::Audit { kind, path })
-}
-
-/// The file of a command that takes one alone, and `--board`.
+/// The file of a command of this name that takes one alone, and `--board`.
 fn read_file<'a, S: AsStr>(
     alloc: Global,
-    kind: FileKind,
-    command: Command<'a>,
+    name: &'a str,
+    about: &'a str,
     words: &'a [S],
 ) -> Result<&'a str, Error>
-    requires { IsFileApp (app_of command) }
     ensures asked { IfOk result (λ path. Contains (map S.text words.entry.now) path.now) }
-    ensures given { (path : List ℕ) → IsPlain path
+    ensures given { (kind : Kind) (path : List ℕ) → IsPlain path
         → map S.text words.entry.now ≡ flagged kind (path ∷ [])
         → Gives result (λ r. r.now ≡ path) }
 {
+    let command = file_command(alloc, name, about, FILE_HELP, STATUSES)?;
     let matches = command.try_get_matches_from(words)?;
     value_of(alloc, words, &matches, "FILE")
 }
@@ -280,8 +214,7 @@ fn read_file<'a, S: AsStr>(
 fn read_upgrade<'a, S: AsStr>(alloc: Global, words: &'a [S]) -> Result<Request<'a>, Error>
     ensures asked { IfOk result
         (λ r. IsAskedBy (codes "upgrade" ∷ map S.text words.entry.now) (asked_by r)) }
-    ensures given { (old new : List ℕ) → IsPlain old → IsPlain new
-        → map S.text words.entry.now ≡ old ∷ new ∷ []
+    ensures usual { (old new : List ℕ) → AreUsual (upgrade old new) (map S.text words.entry.now)
         → Gives result (IsFor (upgrade old new)) }
 {
     let matches = upgrade_command(alloc)?.try_get_matches_from(words)?;
@@ -291,32 +224,28 @@ fn read_upgrade<'a, S: AsStr>(alloc: Global, words: &'a [S]) -> Result<Request<'
 }
 
 /// What the words after `build` ask for, which speak of a file of this kind.
-fn read_build<'a, S: AsStr>(
-    alloc: Global,
-    kind: FileKind,
-    words: &'a [S],
-) -> Result<Request<'a>, Error>
+fn read_build<'a, S: AsStr>(alloc: Global, kind: Kind, words: &'a [S]) -> Result<Request<'a>, Error>
     requires { kind ≡ kind_in (map S.text words.now) }
     ensures asked { IfOk result
         (λ r. IsAskedBy (codes "build" ∷ map S.text words.entry.now) (asked_by r)) }
-    ensures pips { (n : ℕ) (digits path : List ℕ) → Writes n digits → n < 256 → IsPlain path
-        → map S.text words.entry.now ≡ codes "--pips" ∷ digits ∷ path ∷ [] → kind ≡ Database
+    ensures pips { (n : ℕ) (path : List ℕ)
+        → AreUsual (build Database n path) (map S.text words.entry.now) → kind ≡ Database
         → Gives result (IsFor (build Database n path)) }
-    ensures board { (path : List ℕ) → IsPlain path
-        → map S.text words.entry.now ≡ codes "--board" ∷ path ∷ [] → kind ≡ Board
-        → Gives result (IsFor (build Board 90 path)) }
+    ensures board { (n : ℕ) (path : List ℕ)
+        → AreUsual (build Board n path) (map S.text words.entry.now) → kind ≡ Board
+        → Gives result (IsFor (build Board n path)) }
 {
     let matches = build_command(alloc)?.try_get_matches_from(words)?;
     let path = value_of(alloc, words, &matches, "FILE")?;
     match (kind, matches.get_one::<u8>("pips")) {
-        (FileKind::Database, Some(pips)) => Ok(Request::Build { kind, pips, path }),
-        (FileKind::Database, None) => missing(build_command(alloc)?, "--pips is missing"),
-        (FileKind::Board, None) => Ok(Request::Build {
+        (Kind::Database, Some(pips)) => Ok(Request::Build { kind, pips, path }),
+        (Kind::Database, None) => missing(build_command(alloc)?, "--pips is missing"),
+        (Kind::Board, None) => Ok(Request::Build {
             kind,
             pips: WHOLE_BOARD,
             path,
         }),
-        (FileKind::Board, Some(_)) => mistake(
+        (Kind::Board, Some(_)) => mistake(
             build_command(alloc)?,
             ErrorKind::ArgumentConflict,
             "the argument '--pips <N>' cannot be used with '--board'",
@@ -325,25 +254,21 @@ fn read_build<'a, S: AsStr>(
 }
 
 /// What the words after `query` ask for, which speak of a file of this kind.
-fn read_query<'a, S: AsStr>(
-    alloc: Global,
-    kind: FileKind,
-    words: &'a [S],
-) -> Result<Request<'a>, Error>
+fn read_query<'a, S: AsStr>(alloc: Global, kind: Kind, words: &'a [S]) -> Result<Request<'a>, Error>
     requires { kind ≡ kind_in (map S.text words.now) }
     ensures asked { IfOk result
         (λ r. IsAskedBy (codes "query" ∷ map S.text words.entry.now) (asked_by r)) }
-    ensures file { (path : List ℕ) → IsPlain path
-        → map S.text words.entry.now ≡ flagged kind (path ∷ [])
-        → Gives result (IsFor (query kind path None)) }
-    ensures cache { (n : ℕ) (digits path : List ℕ) → Writes n digits → 1 ≤ n → n < 65536
-        → IsPlain path → map S.text words.entry.now ≡ codes "--cache" ∷ digits ∷ path ∷ []
-        → kind ≡ Database → Gives result (IsFor (query Database path (Some n))) }
+    ensures file { (k : Kind) (path : List ℕ)
+        → AreUsual (query k path None) (map S.text words.entry.now) → kind ≡ k
+        → Gives result (IsFor (query k path None)) }
+    ensures cache { (n : ℕ) (path : List ℕ)
+        → AreUsual (query Database path (Some n)) (map S.text words.entry.now) → kind ≡ Database
+        → Gives result (IsFor (query Database path (Some n))) }
 {
     let matches = query_command(alloc)?.try_get_matches_from(words)?;
     let path = value_of(alloc, words, &matches, "FILE")?;
     let cache = matches.get_one::<u16>("cache");
-    if kind == FileKind::Board && cache.is_some() {
+    if kind == Kind::Board && cache.is_some() {
         return mistake(
             query_command(alloc)?,
             ErrorKind::ArgumentConflict,
@@ -357,9 +282,8 @@ fn read_query<'a, S: AsStr>(
 fn read_ask<'a, S: AsStr>(alloc: Global, words: &'a [S]) -> Result<Request<'a>, Error>
     ensures asked { IfOk result
         (λ r. IsAskedBy (codes "ask" ∷ map S.text words.entry.now) (asked_by r)) }
-    ensures given { (path line : List ℕ) (lines : List (List ℕ)) → IsPlain path
-        → ArePlain (line ∷ lines) → map S.text words.entry.now ≡ path ∷ line ∷ lines
-        → Gives result (IsFor (ask path (as_input (line ∷ lines)))) }
+    ensures usual { (path text : List ℕ) → AreUsual (ask path text) (map S.text words.entry.now)
+        → Gives result (IsFor (ask path text)) }
 {
     let matches = ask_command(alloc)?.try_get_matches_from(words)?;
     let path = value_of(alloc, words, &matches, "FILE")?;
@@ -371,7 +295,7 @@ fn read_ask<'a, S: AsStr>(alloc: Global, words: &'a [S]) -> Result<Request<'a>, 
 fn read_about<'a, S: AsStr>(alloc: Global, words: &'a [S]) -> Result<Request<'a>, Error>
     ensures asked { IfOk result
         (λ r. IsAskedBy (codes "about" ∷ map S.text words.entry.now) (asked_by r)) }
-    ensures given { (path : List ℕ) → IsPlain path → map S.text words.entry.now ≡ path ∷ []
+    ensures usual { (path : List ℕ) → AreUsual (about path) (map S.text words.entry.now)
         → Gives result (IsFor (about path)) }
 {
     let matches = about_command(alloc)?.try_get_matches_from(words)?;

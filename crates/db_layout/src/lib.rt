@@ -16,7 +16,7 @@ pub use header::{Header, HeaderFault, parse_header};
 pub use lower_records::{LowerRecords, leading_bits};
 pub use places::{Place, most_rolls, offset_of, record_length};
 pub use record::{HEADER_BYTES, RECORD_BYTES, RecordView, read_short};
-pub use stated::{BOARD_BOUND, BOARD_VERSION, COMPACT_VERSION, VERSION};
+pub use stated::{BOARD_BOUND, BOARD_VERSION, COMPACT_VERSION, Kind, VERSION};
 pub use stored_shares::StoredShares;
 pub use write_fault::WriteFault;
 pub use writing::{header_bytes, record_bytes, write_bytes, write_header, write_record};

@@ -18,14 +18,14 @@ use Rattle.race_model.specs.Queries.{moves_query, rank_query, IsQuery, HasWords,
 use Rattle.race_model.specs.Queries.{IsRollText, words}
 use Rattle.home_board.specs.declared.position.Position.{Position}
 use Rattle.legal_plays.specs.declared.roll.Roll.{Roll}
-use Rattle.query_text.specs.declared.query.Kind.{Kind}
-use Rattle.query_text.specs.declared.query.Kind.TheVariants.{Mean as MeanKind, Dist as DistKind}
-use Rattle.query_text.specs.declared.query.Kind.TheVariants.{Play as PlayKind, Loss as LossKind}
-use Rattle.query_text.specs.declared.query.Kind.TheVariants.{Moves as MovesKind, Rank as RankKind}
+use Rattle.query_text.specs.declared.query.Word.{Word}
+use Rattle.query_text.specs.declared.query.Word.TheVariants.{Mean as AsksMean, Dist as AsksDist}
+use Rattle.query_text.specs.declared.query.Word.TheVariants.{Play as AsksPlay, Loss as AsksLoss}
+use Rattle.query_text.specs.declared.query.Word.TheVariants.{Moves as AsksMoves, Rank as AsksRank}
 use Rattle.query_text.specs.declared.query.Query.{Query}
 use Rattle.query_text.specs.declared.query.LineFault.{LineFault}
 use Rattle.query_text.specs.declared.query.LineFault.TheVariants.{BadLine, TooMany}
-use Rattle.query_text.specs.Readings.{kind_word, IsPositionReading, IsThrowReading, IsResultText}
+use Rattle.query_text.specs.Readings.{text_of_word, IsPositionReading, IsThrowReading, IsResultText}
 use Rattle.query_text.specs.Readings.{IsResultReading, IsRestFault, IsRestReading, IsReading, both}
 
 -- the byte is a space
@@ -172,39 +172,39 @@ result_read text a rest b c v (Err TooMany) (Err TooMany) e f rolled is other = 
 )
 
 -- the kind of a query
-kind_of : Asked → Kind
-kind_of (mean_query x) = MeanKind
-kind_of (dist_query x) = DistKind
-kind_of (play_query x v) = PlayKind
-kind_of (loss_query x v y) = LossKind
-kind_of (moves_query x v) = MovesKind
-kind_of (rank_query x) = RankKind
+word_in : Asked → Word
+word_in (mean_query x) = AsksMean
+word_in (dist_query x) = AsksDist
+word_in (play_query x v) = AsksPlay
+word_in (loss_query x v y) = AsksLoss
+word_in (moves_query x v) = AsksMoves
+word_in (rank_query x) = AsksRank
 
 -- the kind that a word names, by its first two letters
-named : List ℕ → Kind
+named : List ℕ → Word
 named word =
-    cond (eqb (get_or word 1 0) 101) MeanKind (cond (eqb (get_or word 0 0) 109) MovesKind
-    (cond (eqb (get_or word 0 0) 100) DistKind (cond (eqb (get_or word 0 0) 112) PlayKind
-    (cond (eqb (get_or word 0 0) 108) LossKind RankKind))))
+    cond (eqb (get_or word 1 0) 101) AsksMean (cond (eqb (get_or word 0 0) 109) AsksMoves
+    (cond (eqb (get_or word 0 0) 100) AsksDist (cond (eqb (get_or word 0 0) 112) AsksPlay
+    (cond (eqb (get_or word 0 0) 108) AsksLoss AsksRank))))
 
 -- .. which is the kind of its own word
-named-kind_word : (k : Kind) → named (kind_word k) ≡ k
+named-text_of_word : (k : Word) → named (text_of_word k) ≡ k
 unfolding named
-named-kind_word MeanKind = refl
-named-kind_word DistKind = refl
-named-kind_word PlayKind = refl
-named-kind_word LossKind = refl
-named-kind_word MovesKind = refl
-named-kind_word RankKind = refl
+named-text_of_word AsksMean = refl
+named-text_of_word AsksDist = refl
+named-text_of_word AsksPlay = refl
+named-text_of_word AsksLoss = refl
+named-text_of_word AsksMoves = refl
+named-text_of_word AsksRank = refl
 
 -- two kinds have two words
-kinds_apart : (k l : Kind) → kind_word k ≡ kind_word l → k ≡ l
-kinds_apart k l e = sym (named-kind_word k) ∙ ap named e ∙ named-kind_word l
+words_apart : (k l : Word) → text_of_word k ≡ text_of_word l → k ≡ l
+words_apart k l e = sym (named-text_of_word k) ∙ ap named e ∙ named-text_of_word l
 
 -- the first word of a line is that of what it asks
 first_word : (line word : List ℕ) (more : List (List ℕ)) (q : Asked) → words line ≡ word ∷ more
-    → HasWords line q → word ≡ kind_word (kind_of q)
-unfolding kind_of
+    → HasWords line q → word ≡ text_of_word (word_in q)
+unfolding word_in
 first_word line word more (mean_query x) e has = cc (has.2)
 first_word line word more (dist_query x) e has = cc (has.2)
 first_word line word more (play_query x v) e has = cc (has.4)
@@ -224,13 +224,13 @@ one_word_asks_nothing line (rank_query x) e has = cc (has.2)
 
 -- .. and where its first word is that of no kind
 pub no_kind : (line word : List ℕ) (more : List (List ℕ)) (q : Asked) → words line ≡ word ∷ more
-    → ((k : Kind) → word ≢ kind_word k) → HasWords line q → ⊥
-no_kind line word more q e none has = none (kind_of q) (first_word line word more q e has)
+    → ((k : Word) → word ≢ text_of_word k) → HasWords line q → ⊥
+no_kind line word more q e none has = none (word_in q) (first_word line word more q e has)
 
 -- a line whose rest is refused as bad asks nothing
-bad_rest : (line rest : List ℕ) (q : Asked) → words line ≡ kind_word (kind_of q) ∷ words rest
-    → IsRestFault (kind_of q) rest BadLine → HasWords line q → ⊥
-unfolding kind_of
+bad_rest : (line rest : List ℕ) (q : Asked) → words line ≡ text_of_word (word_in q) ∷ words rest
+    → IsRestFault (word_in q) rest BadLine → HasWords line q → ⊥
+unfolding word_in
 bad_rest line rest (mean_query x) e bad has = let one : words rest ≡ has.0 ∷ [] = cc (has.2) in
     bad x (subst (λ t. IsPositionText t x) (sym (one_word rest has.0 one)) has.1)
 bad_rest line rest (dist_query x) e bad has = let one : words rest ≡ has.0 ∷ [] = cc (has.2) in
@@ -257,12 +257,12 @@ loss_joined p r q =
     ∙ sym (append_assoc (codes "loss " ++ p ++ codes " " ++ r) (codes " ") q)
 
 -- a line whose rest has too many checkers in a position asks that
-too_many_rest : (line rest : List ℕ) (k : Kind) → line ≡ kind_word k ++ (32 ∷ rest)
+too_many_rest : (line rest : List ℕ) (k : Word) → line ≡ text_of_word k ++ (32 ∷ rest)
     → IsRestFault k rest TooMany → (q : Asked) × IsQuery line q × HasTooMany q
-too_many_rest line rest MeanKind e (x, is, many) = (mean_query x, (rest, is, e), many)
-too_many_rest line rest DistKind e (x, is, many) = (dist_query x, (rest, is, e), many)
-too_many_rest line rest RankKind e (x, is, many) = (rank_query x, (rest, is, e), many)
-too_many_rest line rest PlayKind e (x, v, is, many) = (
+too_many_rest line rest AsksMean e (x, is, many) = (mean_query x, (rest, is, e), many)
+too_many_rest line rest AsksDist e (x, is, many) = (dist_query x, (rest, is, e), many)
+too_many_rest line rest AsksRank e (x, is, many) = (rank_query x, (rest, is, e), many)
+too_many_rest line rest AsksPlay e (x, v, is, many) = (
   play_query x v,
   (
     is.position,
@@ -275,7 +275,7 @@ too_many_rest line rest PlayKind e (x, v, is, many) = (
   ),
   many,
 )
-too_many_rest line rest MovesKind e (x, v, is, many) = (
+too_many_rest line rest AsksMoves e (x, v, is, many) = (
   moves_query x v,
   (
     is.position,
@@ -288,7 +288,7 @@ too_many_rest line rest MovesKind e (x, v, is, many) = (
   ),
   many,
 )
-too_many_rest line rest LossKind e (x, v, y, is, many) =
+too_many_rest line rest AsksLoss e (x, v, y, is, many) =
     let t = is.throw_is in (
       loss_query x v y,
       (
@@ -305,17 +305,17 @@ too_many_rest line rest LossKind e (x, v, y, is, many) =
     )
 
 -- the reading of what stands after the first word is that of the line
-pub rest_read : (line word rest : List ℕ) (k : Kind) (r : Result Query LineFault)
+pub rest_read : (line word rest : List ℕ) (k : Word) (r : Result Query LineFault)
     → ((line : List ℕ) (q : Asked) → IsQuery line q ↔ HasWords line q)
-    → (line ≡ word ++ (32 ∷ rest)) × (words line ≡ word ∷ words rest) → word ≡ kind_word k
+    → (line ≡ word ++ (32 ∷ rest)) × (words line ≡ word ∷ words rest) → word ≡ text_of_word k
     → IsRestReading k rest r → IsReading line r
 rest_read line word rest k (Ok query) law parts e read =
     rw (parts.0 ∙ ap (λ w. w ++ (32 ∷ rest)) e) read
 rest_read line word rest k (Err BadLine) law parts e bad = λ q is.
     let has = (law line q).0 is in
-    let same : k ≡ kind_of q = kinds_apart k (kind_of q) (sym e ∙ first_word line word
+    let same : k ≡ word_in q = words_apart k (word_in q) (sym e ∙ first_word line word
     (words rest) q parts.1 has) in
-    bad_rest line rest q (parts.1 ∙ ap (λ w. w ∷ words rest) (e ∙ ap kind_word same))
+    bad_rest line rest q (parts.1 ∙ ap (λ w. w ∷ words rest) (e ∙ ap text_of_word same))
     (subst (λ l. IsRestFault l rest BadLine) same bad) has
 rest_read line word rest k (Err TooMany) law parts e many = too_many_rest line rest k (parts.0
     ∙ ap (λ w. w ++ (32 ∷ rest)) e) many

@@ -8,23 +8,23 @@ use Rattle.race_model.specs.Queries.{moves_query, rank_query, IsQuery, HasTooMan
 use Rattle.race_model.specs.Queries.{words, subject, AsksOfFinished, HasResult}
 use Rattle.home_board.specs.declared.position.Position.{Position}
 use Rattle.legal_plays.specs.declared.roll.Roll.{Roll}
-use Rattle.query_text.specs.declared.query.Kind.{Kind}
-use Rattle.query_text.specs.declared.query.Kind.TheVariants.{Mean as MeanKind, Dist as DistKind}
-use Rattle.query_text.specs.declared.query.Kind.TheVariants.{Play as PlayKind, Loss as LossKind}
-use Rattle.query_text.specs.declared.query.Kind.TheVariants.{Moves as MovesKind, Rank as RankKind}
+use Rattle.query_text.specs.declared.query.Word.{Word}
+use Rattle.query_text.specs.declared.query.Word.TheVariants.{Mean as AsksMean, Dist as AsksDist}
+use Rattle.query_text.specs.declared.query.Word.TheVariants.{Play as AsksPlay, Loss as AsksLoss}
+use Rattle.query_text.specs.declared.query.Word.TheVariants.{Moves as AsksMoves, Rank as AsksRank}
 use Rattle.query_text.specs.declared.query.Query.{Query}
 use Rattle.query_text.specs.declared.query.Query.TheVariants.{Mean, Dist, Play, Loss, Moves, Rank}
 use Rattle.query_text.specs.declared.query.LineFault.{LineFault}
 use Rattle.query_text.specs.declared.query.LineFault.TheVariants.{BadLine, TooMany}
 
 -- the word of a kind of query
-abbrev pub kind_word : Kind → List ℕ
-kind_word MeanKind = codes "mean"
-kind_word DistKind = codes "dist"
-kind_word PlayKind = codes "play"
-kind_word LossKind = codes "loss"
-kind_word MovesKind = codes "moves"
-kind_word RankKind = codes "rank"
+abbrev pub text_of_word : Word → List ℕ
+text_of_word AsksMean = codes "mean"
+text_of_word AsksDist = codes "dist"
+text_of_word AsksPlay = codes "play"
+text_of_word AsksLoss = codes "loss"
+text_of_word AsksMoves = codes "moves"
+text_of_word AsksRank = codes "rank"
 
 -- the query that the code's value stands for
 abbrev pub asked : Query → Asked
@@ -86,18 +86,18 @@ both (Err TooMany) v (Ok y) = Err TooMany
 both (Err TooMany) v (Err fault) = Err fault
 
 -- what stands after the word of a kind is refused
-abbrev pub IsRestFault : Kind → List ℕ → LineFault → Type 0
-IsRestFault MeanKind rest fault = IsPositionReading rest (Err fault)
-IsRestFault DistKind rest fault = IsPositionReading rest (Err fault)
-IsRestFault PlayKind rest fault = IsThrowReading rest (Err fault)
-IsRestFault LossKind rest fault = IsResultReading rest (Err fault)
-IsRestFault MovesKind rest fault = IsThrowReading rest (Err fault)
-IsRestFault RankKind rest fault = IsPositionReading rest (Err fault)
+abbrev pub IsRestFault : Word → List ℕ → LineFault → Type 0
+IsRestFault AsksMean rest fault = IsPositionReading rest (Err fault)
+IsRestFault AsksDist rest fault = IsPositionReading rest (Err fault)
+IsRestFault AsksPlay rest fault = IsThrowReading rest (Err fault)
+IsRestFault AsksLoss rest fault = IsResultReading rest (Err fault)
+IsRestFault AsksMoves rest fault = IsThrowReading rest (Err fault)
+IsRestFault AsksRank rest fault = IsPositionReading rest (Err fault)
 
 -- what stands after the word of a kind asks this query, or is refused
-abbrev pub IsRestReading : Kind → List ℕ → Result Query LineFault → Type 0
+abbrev pub IsRestReading : Word → List ℕ → Result Query LineFault → Type 0
 IsRestReading kind rest (Ok query) =
-    IsQuery (kind_word kind ++ (32 ∷ rest)) (asked query) × (¬ HasTooMany (asked query))
+    IsQuery (text_of_word kind ++ (32 ∷ rest)) (asked query) × (¬ HasTooMany (asked query))
 IsRestReading kind rest (Err fault) = IsRestFault kind rest fault
 
 -- the line asks this query, or one with a position of too many checkers, or none

@@ -2,7 +2,7 @@
 ghost use Rattle.std.specs.Prelude.{◌≡◌, ◌≢◌, ℕ, ◌<◌, List, [], ◌∷◌, ◌++◌, ◌==◌, length, position, IfSome, MatchOption};
 ghost use Rattle.race_model.specs.Dice.{Throw};
 ghost use Rattle.race_model.specs.Queries.{mean_query, IsQuery, HasTooMany, IsRollText, words};
-ghost use Rattle.query_text.specs.Readings.{kind_word, IsPositionReading, IsThrowReading};
+ghost use Rattle.query_text.specs.Readings.{text_of_word, IsPositionReading, IsThrowReading};
 ghost use Rattle.query_text.specs.Readings.{IsResultReading, IsRestReading, IsReading, both};
 
 use home_board::{Position, PositionFault, parse_position};
@@ -43,7 +43,7 @@ pub(crate) enum LineFault {
 
 /// The first word of a query, which says what is asked.
 #[derive(Clone, Copy, Debug, PartialEq, Eq)]
-enum Kind {
+enum Word {
     Mean,
     Dist,
     Play,
@@ -62,7 +62,7 @@ pub(crate) fn read_query(line: &[u8]) -> Result<Query, LineFault>
     let Some((word, rest)) = cut(line) else {
         return Err(LineFault::BadLine);
     };
-    match read_kind(word) {
+    match read_word(word) {
         Some(kind) => read_rest(kind, rest),
         None => Err(LineFault::BadLine),
     }
@@ -84,31 +84,31 @@ pub fn read_mean(line: &[u8]) -> Option<Position>
 }
 
 /// What a line of a kind asks, of which this is what stands after the first word.
-fn read_rest(kind: Kind, rest: &[u8]) -> Result<Query, LineFault>
+fn read_rest(kind: Word, rest: &[u8]) -> Result<Query, LineFault>
     ensures { IsRestReading kind rest.now result }
 {
     match kind {
-        Kind::Mean => read_position(rest).map(Query::Mean),
-        Kind::Dist => read_position(rest).map(Query::Dist),
-        Kind::Play => read_throw(rest).map(|(position, roll)| Query::Play(position, roll)),
-        Kind::Loss => read_result(rest).map(|(position, roll, to)| Query::Loss(position, roll, to)),
-        Kind::Moves => read_throw(rest).map(|(position, roll)| Query::Moves(position, roll)),
-        Kind::Rank => read_position(rest).map(Query::Rank),
+        Word::Mean => read_position(rest).map(Query::Mean),
+        Word::Dist => read_position(rest).map(Query::Dist),
+        Word::Play => read_throw(rest).map(|(position, roll)| Query::Play(position, roll)),
+        Word::Loss => read_result(rest).map(|(position, roll, to)| Query::Loss(position, roll, to)),
+        Word::Moves => read_throw(rest).map(|(position, roll)| Query::Moves(position, roll)),
+        Word::Rank => read_position(rest).map(Query::Rank),
     }
 }
 
 /// The kind of query that a word names.
-fn read_kind(word: &[u8]) -> Option<Kind>
-    ensures { MatchOption result ((kind : Kind) → word.now ≢ kind_word kind)
-        (λ kind. word.now ≡ kind_word kind) }
+fn read_word(word: &[u8]) -> Option<Word>
+    ensures { MatchOption result ((kind : Word) → word.now ≢ text_of_word kind)
+        (λ kind. word.now ≡ text_of_word kind) }
 {
     match word {
-        b"mean" => Some(Kind::Mean),
-        b"dist" => Some(Kind::Dist),
-        b"play" => Some(Kind::Play),
-        b"loss" => Some(Kind::Loss),
-        b"moves" => Some(Kind::Moves),
-        b"rank" => Some(Kind::Rank),
+        b"mean" => Some(Word::Mean),
+        b"dist" => Some(Word::Dist),
+        b"play" => Some(Word::Play),
+        b"loss" => Some(Word::Loss),
+        b"moves" => Some(Word::Moves),
+        b"rank" => Some(Word::Rank),
         _ => None,
     }
 }

@@ -1,10 +1,8 @@
 -- What is told of the bytes that were read, which have this first fault.
 use Rattle.std.proofs.Common.{◌∙◌, inl, inr, refl, subst, sym}
-use Rattle.bearoff_cli.specs.FileAnswers.{IsReadFrom}
-use Rattle.bearoff_cli.specs.Kinds.{file_of}
-use Rattle.bearoff_cli.specs.FileAnswers.{about_file}
+use Rattle.bearoff_cli.specs.FileAnswers.{IsReadFrom, about_file}
+use Rattle.bearoff_cli.specs.Kinds.{file_of, stated_file}
 use Rattle.db_layout.specs.Writes.{AppendsPart}
-use Rattle.bearoff_cli.specs.Kinds.{stated_file}
 use Rattle.bearoff_cli.proofs.Explained.{check_of_file, written_end}
 use Rattle.bearoff_cli.proofs.OpenedFiles.{about_is, err-weaker, says_about}
 use Rattle.bearoff_cli.proofs.StoppedRuns.{read_part}

@@ -7,10 +7,15 @@ returns-clause-told g c some other =
     let told = c.act_on-told.ensures.told some other in
     (told.0, told.1, (told.2.0, told.2.1, told.2.2.0))
 
-pub returns-clause-fault : goal.returns-clause-fault
-returns-clause-fault g c asked asks some =
-    let told = c.act_on-told.ensures.fault asked asks some in
-    (told.0, told.1, (told.2.0, told.2.1, told.2.2.0, told.2.3))
+pub returns-clause-ends : goal.returns-clause-ends
+returns-clause-ends g c asked asks =
+    let it = c.act_on-told.ensures.ends asked asks in
+    record {
+      fault = λ some. let told = it.fault some in
+          (told.0, told.1, (told.2.0, told.2.1, told.2.2.0, told.2.3));
+      done = it.done;
+      unread = it.unread;
+    }
 
 pub returns-clause-other : goal.returns-clause-other
 returns-clause-other g c =

@@ -1,5 +1,5 @@
 -- The end of a request that was refused is told.
-use Rattle.std.proofs.Common.{map}
+use Rattle.std.proofs.Common.{ℕ, List, map}
 use Rattle.bearoff_cli.specs.FileAnswers.{IsReadFrom}
 use Rattle.bearoff_cli.specs.Tellings.{IsWritten}
 use Rattle.bearoff_cli.proofs.ToldFaults.{told_any, told_done, told_end}
@@ -12,20 +12,26 @@ returns-clause-told g c some other =
     (g.E.Write.contents c.tell.new.errors) text) _ c.tell.ensures.silent c.tell.ensures.told
     c.perform.ensures.explained some other
 
-pub returns-clause-fault : goal.returns-clause-fault
-returns-clause-fault g c asked asks some =
-    told_end (IsReadFrom g.D.Reader.Read.remaining
-    (g.D.Disk.paths c.args.disk.now) (g.D.Disk.told c.args.disk.now))
-    asked (g.I.Read.remaining c.args.input.now)
-    (g.I.Read.remaining c.perform.new.input) (g.O.Write.contents c.args.output.now)
-    (g.O.Write.contents c.perform.new.output) c.perform.result c.tell.result.status
-    (λ line. IsWritten c.tell.result.line (g.E.Write.contents c.args.errors.now)
-    (g.E.Write.contents c.tell.new.errors) line) _ c.tell.ensures.silent c.tell.ensures.told
-    (c.perform.ensures.fault asked asks) some
+pub returns-clause-ends : goal.returns-clause-ends
+returns-clause-ends g c asked asks =
+    let it = c.perform.ensures.ends asked asks in
+    let Line = λ (text : List ℕ). IsWritten c.tell.result.line (g.E.Write.contents
+    c.args.errors.now) (g.E.Write.contents c.tell.new.errors) text in
+    record {
+      fault = told_end (IsReadFrom g.D.Reader.Read.remaining
+          (g.D.Disk.paths c.args.disk.now) (g.D.Disk.told c.args.disk.now))
+          asked _ _ _ _ c.perform.result c.tell.result.status Line _ c.tell.ensures.silent
+          c.tell.ensures.told it.fault;
+      done = told_done c.perform.result c.tell.result.status Line c.tell.ensures.told it.done;
+      unread = it.unread;
+    }
 
-pub returns-clause-done : goal.returns-clause-done
-returns-clause-done g c asked asks none =
+pub returns-clause-put : goal.returns-clause-put
+returns-clause-put g c asked asks =
     told_done c.perform.result c.tell.result.status
-    (λ line. IsWritten c.tell.result.line (g.E.Write.contents c.args.errors.now)
-    (g.E.Write.contents c.tell.new.errors) line) c.tell.ensures.told
-    (c.perform.ensures.done asked asks) none
+    (λ text. IsWritten c.tell.result.line (g.E.Write.contents c.args.errors.now)
+    (g.E.Write.contents c.tell.new.errors) text) c.tell.ensures.told
+    (c.perform.ensures.ends asked asks).put
+
+pub returns-clause-leaves : goal.returns-clause-leaves
+returns-clause-leaves g c asked asks = (c.perform.ensures.ends asked asks).leaves

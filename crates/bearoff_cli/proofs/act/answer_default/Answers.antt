@@ -2,7 +2,7 @@ use Rattle.std.proofs.Common.{ℕ, List, ◌++◌, Option, Result, Ok, Err, IfOk
 use Rattle.race_model.specs.BuiltFile.{IsBuilt}
 use Rattle.retrograde.specs.UsualVersion.{usual_version}
 use Rattle.epc_query.specs.AnyFiles.{database_file}
-use Rattle.bearoff_cli.specs.InputAnswers.{AreAnswered, AreAnsweredOver}
+use Rattle.bearoff_cli.specs.FileAnswers.{AreAnswered, AreAnsweredOver}
 use Rattle.race_model.proofs.RightFiles.Right.{right_of_local}
 use Rattle.bearoff_cli.proofs.StoppedRuns.{built_stopped}
 use Rattle.bearoff_cli.proofs.act.answer_default.Goals as goal

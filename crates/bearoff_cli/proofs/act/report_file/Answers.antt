@@ -2,8 +2,10 @@
 use Rattle.std.proofs.Common.{◌≡◌, ◌∙◌, Err, inr, ap, subst, sym, rules}
 use Rattle.race_model.specs.Ranks.{count_to}
 use Rattle.bearoff_cli.specs.Kinds.{file_of}
-use Rattle.bearoff_cli.specs.FileAnswers.{IsReadFrom}
-use Rattle.bearoff_cli.specs.StoppedRuns.{SaysRightPart, WritesLevelsPart}
+use Rattle.db_layout.specs.Writes.{AppendsPart}
+use Rattle.epc_query.specs.AnyFiles.{bound_by}
+use Rattle.bearoff_cli.specs.FileAnswers.{IsReadFrom, count_line}
+use Rattle.bearoff_cli.specs.StoppedRuns.{WritesLevelsPart}
 use Rattle.bearoff_cli.specs.declared.act.Done.TheVariants.{Checked}
 use Rattle.bearoff_cli.proofs.OpenedFiles.{err-weaker, levels_read, says_right}
 use Rattle.bearoff_cli.proofs.StoppedRuns.{line_part, read_part}
@@ -36,7 +38,8 @@ returns-in-Count-clause-left g c is =
     let line = c.as_bytes.ensures.value ∙ c.as_str.ensures.value ∙ c.count_line-line.ensures in
     read_part (file_of c.args.kind) (IsReadFrom g.D.Reader.Read.remaining
     (g.D.Disk.paths c.args.disk.now) (g.D.Disk.told c.args.disk.now) c.args.path.now)
-    (λ f. SaysRightPart (file_of c.args.kind f) old new) file old new
+    (λ f. AppendsPart old new (count_line Checked (bound_by (file_of c.args.kind f))
+    (count_to (bound_by (file_of c.args.kind f))))) file old new
     c.write_flushed.result read kept.right (err-weaker c.write_flushed.result
     (line_part old new Checked _ _ _ kept.bound (ap count_to kept.bound))
     (rw line at c.write_flushed.ensures.part))

@@ -7,7 +7,7 @@ use Rattle.race_model.specs.Ranks.{count_to}
 use Rattle.race_model.specs.Files.{version_of}
 use Rattle.race_model.specs.RightFiles.{IsRightDatabase}
 use Rattle.epc_query.specs.AnyFiles.{database_file}
-use Rattle.bearoff_cli.specs.Statuses.{status_of}
+use Rattle.bearoff_cli.specs.Lines.{status_of}
 use Rattle.bearoff_cli.specs.FileAnswers.{IsReadFrom}
 use Rattle.bearoff_cli.specs.StoppedRuns.{SaysUpgradedPart}
 use Rattle.bearoff_cli.specs.declared.act.Done.TheVariants.{Upgraded}

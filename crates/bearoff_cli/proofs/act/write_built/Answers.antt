@@ -1,7 +1,7 @@
 -- Where the line can't be written, or the file, the status is 1.
 use Rattle.std.proofs.Common.{◌∙◌, ap}
 use Rattle.std.proofs.lemmas.Result.{IfErr-weaker}
-use Rattle.bearoff_cli.specs.Statuses.{status_of}
+use Rattle.bearoff_cli.specs.Lines.{status_of}
 use Rattle.bearoff_cli.proofs.KeptFiles.{low_status}
 use Rattle.bearoff_cli.proofs.act.write_built.Goals as goal
 

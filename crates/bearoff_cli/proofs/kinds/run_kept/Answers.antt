@@ -2,7 +2,7 @@
 use Rattle.std.proofs.Common.{Some, IfErr, IfOk, ap, subst, sym}
 use Rattle.epc_query.specs.AnyFiles.{IsRightBy, board_file, database_file}
 use Rattle.epc_query.specs.Runs.{IsRunStopped}
-use Rattle.bearoff_cli.specs.InputAnswers.{AreAnswered}
+use Rattle.bearoff_cli.specs.FileAnswers.{AreAnswered}
 use Rattle.bearoff_cli.specs.Kinds.{file_of}
 use Rattle.bearoff_cli.proofs.OpenedFiles.{are_answered}
 use Rattle.bearoff_cli.proofs.kinds.run_kept.Goals as goal

@@ -7,8 +7,7 @@ use Rattle.bearoff_cli.specs.Kinds.{file_of}
 use Rattle.bearoff_cli.proofs.Levels.{next_level, levels_then_kept}
 use Rattle.bearoff_cli.proofs.StoppedRuns.{levels_part, levels_and_part}
 use Rattle.bearoff_cli.proofs.kinds.write_levels.Given.{Over}
-use Rattle.bearoff_cli.proofs.kinds.write_levels.Goals.{After-flush}
-use Rattle.bearoff_cli.proofs.kinds.write_levels.Goals.{else-loop-pips-test}
+use Rattle.bearoff_cli.proofs.kinds.write_levels.Goals.{After-flush, else-loop-pips-test}
 use Rattle.bearoff_cli.proofs.kinds.write_levels.Goals.{then-loop-pips-test+in_ok-write_level+else-pips-pips-end}
 use Rattle.bearoff_cli.proofs.kinds.write_levels.Goals as goal
 

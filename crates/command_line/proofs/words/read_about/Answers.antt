@@ -1,5 +1,5 @@
 -- The file that stands among the words.
-use Rattle.std.proofs.Common.{◌∙◌, [], rules, ap, ap₂, sym, map, codes, refl}
+use Rattle.std.proofs.Common.{◌∙◌, [], rules, ap, ap₂, map, codes, refl}
 use Rattle.clap.specs.Words.{takes}
 use Rattle.command_line.specs.Asked.{about}
 use Rattle.command_line.specs.Commands.{about_app}
@@ -7,14 +7,14 @@ use Rattle.command_line.proofs.PlainWords.{about_first, about_takes, first_from}
 use Rattle.command_line.proofs.Contained.{among, first_of_them}
 use Rattle.command_line.proofs.words.read_about.Goals as goal
 
-pub returns-in_err-matches-clause-given : goal.returns-in_err-matches-clause-given
-returns-in_err-matches-clause-given g c path plain words_are =
+pub returns-in_err-matches-clause-usual : goal.returns-in_err-matches-clause-usual
+returns-in_err-matches-clause-usual g c path (plain, words_are) =
     let kind = c.in_err-matches.ensures.passes
     (ap₂ takes c.in_ok-about_command.ensures words_are ∙ about_takes path plain) in
     search rules
 
-pub returns-in_err-path-clause-given : goal.returns-in_err-path-clause-given
-returns-in_err-path-clause-given g c path plain words_are =
+pub returns-in_err-path-clause-usual : goal.returns-in_err-path-clause-usual
+returns-in_err-path-clause-usual g c path (plain, words_are) =
     let words = map g.S.AsStr.text c.args.words.now in
     let m = c.in_ok-matches.matches in
     let same = first_from _ about_app words _ m (codes "FILE") path
@@ -27,8 +27,8 @@ returns-in_err-path-clause-given g c path plain words_are =
 pub returns-clause-asked : goal.returns-clause-asked
 returns-clause-asked g c = (map g.S.AsStr.text c.args.words.now, refl, c.in_ok-path.ensures.word)
 
-pub returns-clause-given : goal.returns-clause-given
-returns-clause-given g c path plain words_are =
+pub returns-clause-usual : goal.returns-clause-usual
+returns-clause-usual g c path (plain, words_are) =
     let words = map g.S.AsStr.text c.args.words.now in
     let m = c.in_ok-matches.matches in
     let same = first_from _ about_app words _ m (codes "FILE") path

@@ -60,7 +60,7 @@ no_number g c path plain words_are =
     c.in_ok-matches.ensures.matches words_are (build_board_none path plain))
 
 pub returns-in_err-matches-clause-pips : goal.returns-in_err-matches-clause-pips
-returns-in_err-matches-clause-pips g c n digits path w lt plain words_are is =
+returns-in_err-matches-clause-pips g c n path (digits, w, lt, plain, words_are) is =
     let accepted = numeral_accepted 0 255 n digits w (omega arith) (omega arith) (omega arith) in
     let kind = c.in_err-matches.ensures.passes
     (ap₂ takes c.in_ok-build_command.ensures words_are
@@ -68,13 +68,13 @@ returns-in_err-matches-clause-pips g c n digits path w lt plain words_are is =
     search rules
 
 pub returns-in_err-matches-clause-board : goal.returns-in_err-matches-clause-board
-returns-in_err-matches-clause-board g c path plain words_are is =
+returns-in_err-matches-clause-board g c n path (most, plain, words_are) is =
     let kind = c.in_err-matches.ensures.passes
     (ap₂ takes c.in_ok-build_command.ensures words_are ∙ build_board_takes path plain) in
     search rules
 
 pub returns-in_err-path-clause-pips : goal.returns-in_err-path-clause-pips
-returns-in_err-path-clause-pips g c n digits path w lt plain words_are is =
+returns-in_err-path-clause-pips g c n path (digits, w, lt, plain, words_are) is =
     let read = c.value_of.ensures.some path
     (numbered g (goal.at.returns-in_err-path-clause-pips g c).After-value_of n digits path w lt
     plain words_are)
@@ -82,7 +82,7 @@ returns-in_err-path-clause-pips g c n digits path w lt plain words_are is =
     search rules
 
 pub returns-in_err-path-clause-board : goal.returns-in_err-path-clause-board
-returns-in_err-path-clause-board g c path plain words_are is =
+returns-in_err-path-clause-board g c n path (most, plain, words_are) is =
     let read = c.value_of.ensures.some path
     (flagged_file g (goal.at.returns-in_err-path-clause-board g c).After-value_of path plain
     words_are)
@@ -98,7 +98,7 @@ returns-in-Board-None-clause-asked g c =
     (map g.S.AsStr.text c.args.words.now, refl, sym c.requires, c.in_ok-path.ensures.word)
 
 pub returns-in-Database-Some-clause-pips : goal.returns-in-Database-Some-clause-pips
-returns-in-Database-Some-clause-pips g c n digits path w lt plain words_are is =
+returns-in-Database-Some-clause-pips g c n path (digits, w, lt, plain, words_are) is =
     let at = goal.at.returns-in-Database-Some-clause-pips g c in
     let got = number g at.After-get_one n digits path w lt plain words_are in
     let read = c.in_ok-path.ensures.some path
@@ -108,20 +108,20 @@ returns-in-Database-Some-clause-pips g c n digits path w lt plain words_are is =
     (rw (is, pips, read.0) refl, tt)
 
 pub returns-in-Database-None-clause-pips : goal.returns-in-Database-None-clause-pips
-returns-in-Database-None-clause-pips g c n digits path w lt plain words_are is =
+returns-in-Database-None-clause-pips g c n path (digits, w, lt, plain, words_are) is =
     let got = number g (goal.at.returns-in-Database-None-clause-pips g c).After-get_one n digits
     path w lt plain words_are in
     search rules
 
 pub returns-in-Board-None-clause-board : goal.returns-in-Board-None-clause-board
-returns-in-Board-None-clause-board g c path plain words_are is =
+returns-in-Board-None-clause-board g c n path (most, plain, words_are) is =
     let read = c.in_ok-path.ensures.some path
     (flagged_file g (goal.at.returns-in-Board-None-clause-board g c).After-value_of path plain
     words_are)
     (among _ _ path words_are (second_of_them _ path [])) in
-    (rw (is, read.0) refl, tt)
+    (rw (is, most, read.0) refl, tt)
 
 pub returns-clause-board : goal.returns-clause-board
-returns-clause-board g c path plain words_are is =
+returns-clause-board g c n path (most, plain, words_are) is =
     let none = no_number g (goal.at.returns-clause-board g c).After-get_one path plain words_are in
     search rules

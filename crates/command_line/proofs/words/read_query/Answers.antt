@@ -1,10 +1,11 @@
 -- The file and the number that stand among the words.
-use Rattle.std.proofs.Common.{rules, ap, ap₂, sym, ◌≡◌, ◌<◌, ◌≤◌, ◌∙◌, ◌∷◌, [], ℕ, List, map, codes}
-use Rattle.std.proofs.Common.{Some, None, refl, arith}
+use Rattle.std.proofs.Common.{rules, ap, ap₂, sym, ◌≡◌, ◌<◌, ◌≤◌, ◌∙◌, ◌∷◌, [], ℕ, List, map, codes, Some, None, refl}
+use Rattle.std.proofs.Common.{arith}
 use Rattle.std.specs.Str.Parse.{ExplainsUnsignedError, HasUnsignedDigitsIfOk, ParsesUnsigned}
 use Rattle.clap.specs.Words.{first_value, found_of, takes}
 use Rattle.command_line.specs.Asked.{IsPlain, Writes, flagged}
 use Rattle.command_line.specs.Commands.{query_app}
+use Rattle.db_layout.specs.declared.stated.Kind.{Kind}
 use Rattle.command_line.proofs.PlainWords.{first_from, one_from}
 use Rattle.command_line.proofs.BoardWords.{query_kind_first, query_kind_none, query_kind_takes}
 use Rattle.command_line.proofs.Numbers.{numeral_accepted, numeral_is_plain, numeral_reads, without_no_minus}
@@ -26,47 +27,47 @@ numbered g c n digits path w more lt plain words_are =
     (query_path digits path (numeral_is_plain digits w.0) accepted plain)
 
 -- .. or with `--board` or nothing before it
-flagged_file : (g : Over) (c : After-value_of g) (path : List ℕ) → IsPlain path
-    → map g.S.AsStr.text c.args.words.now ≡ flagged c.args.kind (path ∷ [])
+flagged_file : (g : Over) (c : After-value_of g) (kind : Kind) (path : List ℕ)
+    → IsPlain path → map g.S.AsStr.text c.args.words.now ≡ flagged kind (path ∷ [])
     → first_value (found_of c.in_ok-matches.matches) (codes "FILE") ≡ Some path
-flagged_file g c path plain words_are =
+flagged_file g c kind path plain words_are =
     first_from _ query_app (map g.S.AsStr.text c.args.words.now) _ c.in_ok-matches.matches
     (codes "FILE") path c.in_ok-query_command.ensures refl c.in_ok-matches.ensures.matches words_are
-    (query_kind_first c.args.kind path plain)
+    (query_kind_first kind path plain)
 
 -- .. where no number is read
-no_number : (g : Over) (c : After-get_one-cache g) (path : List ℕ) → IsPlain path
-    → map g.S.AsStr.text c.args.words.now ≡ flagged c.args.kind (path ∷ [])
+no_number : (g : Over) (c : After-get_one-cache g) (kind : Kind) (path : List ℕ)
+    → IsPlain path → map g.S.AsStr.text c.args.words.now ≡ flagged kind (path ∷ [])
     → c.get_one-cache.result ≡ None
-no_number g c path plain words_are =
+no_number g c kind path plain words_are =
     c.get_one-cache.ensures.none (one_from _ query_app (map g.S.AsStr.text c.args.words.now) _
     c.in_ok-matches.matches (codes "cache") None c.in_ok-query_command.ensures refl
-    c.in_ok-matches.ensures.matches words_are (query_kind_none c.args.kind path plain))
+    c.in_ok-matches.ensures.matches words_are (query_kind_none kind path plain))
 
 pub returns-in_err-matches-clause-file : goal.returns-in_err-matches-clause-file
-returns-in_err-matches-clause-file g c path plain words_are =
-    let kind = c.in_err-matches.ensures.passes
-    (ap₂ takes c.in_ok-query_command.ensures words_are ∙ query_kind_takes c.args.kind path plain) in
+returns-in_err-matches-clause-file g c kind path (plain, words_are) is =
+    let memory = c.in_err-matches.ensures.passes
+    (ap₂ takes c.in_ok-query_command.ensures words_are ∙ query_kind_takes kind path plain) in
     search rules
 
 pub returns-in_err-matches-clause-cache : goal.returns-in_err-matches-clause-cache
-returns-in_err-matches-clause-cache g c n digits path w more lt plain words_are is =
+returns-in_err-matches-clause-cache g c n path (digits, w, more, lt, plain, words_are) is =
     let accepted = numeral_accepted 1 65535 n digits w (omega arith) (omega arith) (omega arith) in
-    let kind = c.in_err-matches.ensures.passes
+    let memory = c.in_err-matches.ensures.passes
     (ap₂ takes c.in_ok-query_command.ensures words_are
     ∙ query_takes digits path (numeral_is_plain digits w.0) accepted plain) in
     search rules
 
 pub returns-in_err-path-clause-file : goal.returns-in_err-path-clause-file
-returns-in_err-path-clause-file g c path plain words_are =
+returns-in_err-path-clause-file g c kind path (plain, words_are) is =
     let read = c.value_of.ensures.some path
-    (flagged_file g (goal.at.returns-in_err-path-clause-file g c).After-value_of path plain
-    words_are)
-    (among _ _ path words_are (flagged_there c.args.kind path)) in
+    (flagged_file g (goal.at.returns-in_err-path-clause-file g c).After-value_of kind path
+    plain words_are)
+    (among _ _ path words_are (flagged_there kind path)) in
     search rules
 
 pub returns-in_err-path-clause-cache : goal.returns-in_err-path-clause-cache
-returns-in_err-path-clause-cache g c n digits path w more lt plain words_are is =
+returns-in_err-path-clause-cache g c n path (digits, w, more, lt, plain, words_are) is =
     let read = c.value_of.ensures.some path
     (numbered g (goal.at.returns-in_err-path-clause-cache g c).After-value_of n digits path w more
     lt plain words_are)
@@ -74,9 +75,9 @@ returns-in_err-path-clause-cache g c n digits path w more lt plain words_are is 
     search rules
 
 pub returns-then-is_some-clause-file : goal.returns-then-is_some-clause-file
-returns-then-is_some-clause-file g c path plain words_are =
-    let none = no_number g (goal.at.returns-then-is_some-clause-file g c).After-get_one-cache path
-    plain words_are in
+returns-then-is_some-clause-file g c kind path (plain, words_are) is =
+    let none = no_number g (goal.at.returns-then-is_some-clause-file g c).After-get_one-cache kind
+    path plain words_are in
     search rules
 
 pub returns-clause-asked : goal.returns-clause-asked
@@ -84,16 +85,16 @@ returns-clause-asked g c =
     (map g.S.AsStr.text c.args.words.now, refl, sym c.requires, c.in_ok-path.ensures.word)
 
 pub returns-clause-file : goal.returns-clause-file
-returns-clause-file g c path plain words_are =
+returns-clause-file g c kind path (plain, words_are) is =
     let at = goal.at.returns-clause-file g c in
-    let none = no_number g at.After-get_one-cache path plain words_are in
+    let none = no_number g at.After-get_one-cache kind path plain words_are in
     let read = c.in_ok-path.ensures.some path
-    (flagged_file g at.After-value_of path plain words_are)
-    (among _ _ path words_are (flagged_there c.args.kind path)) in
-    (rw (read.0, none) refl, tt)
+    (flagged_file g at.After-value_of kind path plain words_are)
+    (among _ _ path words_are (flagged_there kind path)) in
+    (rw (is, read.0, none) refl, tt)
 
 pub returns-clause-cache : goal.returns-clause-cache
-returns-clause-cache g c n digits path w more lt plain words_are is =
+returns-clause-cache g c n path (digits, w, more, lt, plain, words_are) is =
     let at = goal.at.returns-clause-cache g c in
     let accepted = numeral_accepted 1 65535 n digits w (omega arith) (omega arith) (omega arith) in
     let text = one_from _ query_app (map g.S.AsStr.text c.args.words.now) _ c.in_ok-matches.matches

@@ -1,21 +1,20 @@
-use Rattle.std.proofs.Common.{rules, ap₂, sym, ◌∙◌, [], ◌∷◌, map, codes, refl}
-use Rattle.clap.specs.Words.{Text, takes}
+use Rattle.std.proofs.Common.{rules, ap₂, ◌∙◌, [], ◌∷◌, map, codes, refl}
+use Rattle.clap.specs.Words.{takes}
 use Rattle.command_line.specs.Asked.{upgrade}
 use Rattle.command_line.specs.Commands.{upgrade_app}
-use Rattle.command_line.proofs.PlainWords.{first_from, new_first, old_first}
-use Rattle.command_line.proofs.PlainWords.{upgrade_takes}
+use Rattle.command_line.proofs.PlainWords.{first_from, new_first, old_first, upgrade_takes}
 use Rattle.command_line.proofs.Contained.{among, first_of_them, second_of_them}
 use Rattle.command_line.proofs.words.read_upgrade.Goals as goal
 
-pub returns-in_err-matches-clause-given : goal.returns-in_err-matches-clause-given
-returns-in_err-matches-clause-given g c old new old_plain new_plain words_are =
+pub returns-in_err-matches-clause-usual : goal.returns-in_err-matches-clause-usual
+returns-in_err-matches-clause-usual g c old new (old_plain, new_plain, words_are) =
     let kind = c.in_err-matches.ensures.passes
     (ap₂ takes c.in_ok-upgrade_command.ensures words_are
     ∙ upgrade_takes old new old_plain new_plain) in
     search rules
 
-pub returns-in_err-old-clause-given : goal.returns-in_err-old-clause-given
-returns-in_err-old-clause-given g c old new old_plain new_plain words_are =
+pub returns-in_err-old-clause-usual : goal.returns-in_err-old-clause-usual
+returns-in_err-old-clause-usual g c old new (old_plain, new_plain, words_are) =
     let words = map g.S.AsStr.text c.args.words.now in
     let m = c.in_ok-matches.matches in
     let same = first_from _ upgrade_app words _ m (codes "OLD") old
@@ -25,8 +24,8 @@ returns-in_err-old-clause-given g c old new old_plain new_plain words_are =
     (among _ _ old words_are (first_of_them old (new ∷ []))) in
     search rules
 
-pub returns-in_err-new-clause-given : goal.returns-in_err-new-clause-given
-returns-in_err-new-clause-given g c old new old_plain new_plain words_are =
+pub returns-in_err-new-clause-usual : goal.returns-in_err-new-clause-usual
+returns-in_err-new-clause-usual g c old new (old_plain, new_plain, words_are) =
     let words = map g.S.AsStr.text c.args.words.now in
     let m = c.in_ok-matches.matches in
     let same = first_from _ upgrade_app words _ m (codes "NEW") new
@@ -41,8 +40,8 @@ returns-clause-asked g c =
     let words = map g.S.AsStr.text c.args.words.now in
     ((words, refl, c.in_ok-old.ensures.word), (words, refl, c.in_ok-new.ensures.word))
 
-pub returns-clause-given : goal.returns-clause-given
-returns-clause-given g c old new old_plain new_plain words_are =
+pub returns-clause-usual : goal.returns-clause-usual
+returns-clause-usual g c old new (old_plain, new_plain, words_are) =
     let words = map g.S.AsStr.text c.args.words.now in
     let m = c.in_ok-matches.matches in
     let old_same = first_from _ upgrade_app words _ m (codes "OLD") old
