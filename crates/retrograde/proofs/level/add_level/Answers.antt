@@ -337,7 +337,8 @@ loop-rank-preserved g c =
             arith,
             c.put_bytes-start.ensures.end,
             is.start,
-            ends g last (below g here) (under g here) (pips_is g here) all-records (made all-records),
+            ends g last (below g here) (under g here) (pips_is g here) all-records
+                (made all-records),
           );
       written = λ full.
           and-record (bytes_of_rank version full) (first_of c.args.pips)

@@ -87,7 +87,8 @@ of-requires c = (
         λ i k lt less. absurd (omega (arith, less)),
         λ i k lt le.
             ap (λ (xs : List ℕ). get_or xs k 0)
-            (c.loop-index.invariant.spreads_are all-records i (omega (arith, lt, c.loop-index-test.false)))
+            (c.loop-index.invariant.spreads_are all-records i
+            (omega (arith, lt, c.loop-index-test.false)))
             ∙ c.requires.beyond all-records i k lt le,
       ),
     ),
