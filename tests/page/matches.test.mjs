@@ -8,9 +8,8 @@ import { bearoffs, readMatch } from "../../web/matches.js";
 import { equal, part, ROOT, wrong } from "./given.mjs";
 
 const stored = (name) => readFileSync(join(ROOT, "python/tests/matches", name), "utf8");
-const SHORT = stored("short.mat");
-const SAVED = stored("short.sgf");
-const FILES = [SHORT, SAVED];
+const FILES = ["short.mat", "short.sgf"].map(stored);
+const [SHORT, SAVED] = FILES;
 
 const ASK = `
 import json, sys
@@ -58,6 +57,10 @@ function compare(texts) {
 
 part("the stored matches, and both forms alike", () => {
     const [mat, sgf] = compare(FILES);
+    const board = (point) => Array.from({ length: 26 }, (_, place) => (place === point ? 1 : 0));
+    equal("none with contact, or with a checker outside", [[3, 20], [3, 23], [3, 25], [7, 1], [25, 1]].map(([mine, other]) =>
+        bearoffs({ plays: [{ before: board(mine), after: board(0), other: board(other), text: "3/off" }] }).length),
+    [1, 0, 0, 0, 0]);
     equal("bearoff plays", [mat[4].length > 10, sgf[4].map((turn) => turn.slice(6))], [true, mat[4].map((turn) => turn.slice(6))]);
 });
 
@@ -92,8 +95,8 @@ part("texts that are nearly matches", () => {
     };
     const texts = Array.from({ length: 1500 }, () => changed(one(FILES)));
     const told = compare(texts);
-    const reasons = new Set(told.map(([first]) => (typeof first === "string" ? first : "taken")));
-    equal("each is met", ["illegal", "malformed", "taken", "turn", "variation"].filter((reason) => !reasons.has(reason)), []);
+    equal("each is met", ["illegal", "malformed", "turn", "variation"].filter((reason) =>
+        !told.some(([first]) => first === reason)), []);
     compare(["", "\ufeff", "(", "()", "(;)", "7 point match", `7 point match\n${"x".repeat(1001)}`, `;${"x".repeat(1001)}`,
         `${SHORT}\n\n`, `\ufeff${SHORT}`, SHORT.replaceAll("\n", "\r\n"), SHORT.replaceAll(" ", "\t"), ` \n${SAVED}`]);
 });

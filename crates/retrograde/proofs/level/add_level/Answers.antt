@@ -1,7 +1,6 @@
 use Rattle.std.proofs.Common.{◌≡◌, inl, inr, ⊎_elim, ℕ, suc, ◌+◌, ◌-◌, ◌*◌, ◌<◌, ◌≤◌, List, length, take}
-use Rattle.std.proofs.Common.{sym, ap, ◌∙◌, arith, rules, add-one, sum, refl}
+use Rattle.std.proofs.Common.{sym, ap, ◌∙◌, arith, rules, add-one, sum, refl, get_or-set_other, get_or-set_same}
 use Rattle.std.specs.Prelude.{slice_index, slice_set}
-use Rattle.std.proofs.Common.{get_or-set_other, get_or-set_same}
 use Rattle.std.proofs.lemmas.Bool.{cases_lt}
 use Rattle.std.proofs.lemmas.List.{length-take, length-set, get_or-take, take_all}
 use Rattle.race_model.specs.Positions.{pips}

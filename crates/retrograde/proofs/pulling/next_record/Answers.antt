@@ -53,9 +53,8 @@ has_mean c =
     let x = c.args.position.now in
     let unfinished = denied c.is_finished.ensures.value c.if-is_finished.false in
     let exact = mean-exact all-records x c.requires.position c.requires.low unfinished
-    c.args.records.now.means.now
-    (c.requires.lower.means_are all-records) c.requires.next c.args.plays c.requires.len
-    c.requires.best in
+    c.args.records.now.means.now (c.requires.lower.means_are all-records) c.requires.next
+    c.args.plays c.requires.len c.requires.best in
     c.mean.ensures.some.1 (
       exact.0,
       exact.1.0,
@@ -69,13 +68,11 @@ has_spread c =
     let unfinished = denied c.is_finished.ensures.value c.if-is_finished.false in
     let sums = c.sums_of-sums.ensures.shares all-records in
     let last = no-last all-records x c.requires.position c.requires.low unfinished
-    c.args.records.now.means.now
-    (c.requires.lower.means_are all-records) c.requires.next c.args.plays c.requires.len
-    c.requires.best in
+    c.args.records.now.means.now (c.requires.lower.means_are all-records) c.requires.next
+    c.args.plays c.requires.len c.requires.best in
     let exact = shares-exact all-records x c.requires.position c.requires.low unfinished
-    c.args.records.now.means.now
-    (c.requires.lower.means_are all-records) c.requires.next c.args.plays c.requires.len
-    c.requires.best in
+    c.args.records.now.means.now (c.requires.lower.means_are all-records) c.requires.next
+    c.args.plays c.requires.len c.requires.best in
     c.spread.ensures.some.1
     (sums 22 (omega arith) ∙ last, λ k lt. ap (λ n. n % 36) (sums k (omega arith)) ∙ exact k lt)
 
