@@ -475,7 +475,7 @@ fn answer_bytes<I: Read, O: Write>(
 
 /// Answers each line of the input over the database of a table that isn't in memory.
 // a checked table takes 18 KB of stack: inlined, it would add them to the room of its caller; and
-// it is lent to what answers, since a move would copy it
+// it is handed on, since one that is lent has a room more
 #[inline(never)]
 fn answer_table<T: Table + Drop, I: Read, O: Write>(
     alloc: Global,
@@ -487,8 +487,7 @@ fn answer_table<T: Table + Drop, I: Read, O: Write>(
     ensures cause { IfErr result IsQueryFault }
     ensures turns { IfErr result (UsesTurns (I.remaining input.old) (I.remaining input.new)) }
 {
-    let mut told = check(table);
-    reply(alloc, &mut told, input, output)
+    reply(alloc, check(table), input, output)
 }
 
 /// Answers each line of the input over the database of a table, where it was accepted.
@@ -496,16 +495,16 @@ fn answer_table<T: Table + Drop, I: Read, O: Write>(
 #[inline(never)]
 fn reply<T: Table + Drop, I: Read, O: Write>(
     alloc: Global,
-    told: &mut Result<Checked<T>, (T, CheckFault)>,
+    mut told: Result<Checked<T>, (T, CheckFault)>,
     input: &mut I,
     output: &mut O,
 ) -> Result<(), Fault>
     ensures refused { KeepsIfRefused result (O.contents output.old) (O.contents output.new) }
-    ensures refusal { IfErr told.old (λ refused. result ≡ Err (of_check refused.1)) }
-    ensures cause { OnOk told.old (IfErr result IsAnswerFault) }
+    ensures refusal { IfErr told (λ refused. result ≡ Err (of_check refused.1)) }
+    ensures cause { OnOk told (IfErr result IsAnswerFault) }
     ensures turns { IfErr result (UsesTurns (I.remaining input.old) (I.remaining input.new)) }
 {
-    match told {
+    match &mut told {
         Ok(checked) => match run(alloc, checked, input, output, TURNS) {
             Ok(_) => Ok(()),
             Err(cause) => Err(Fault::from(handed_on(cause, output))),

@@ -2,7 +2,7 @@
 use Rattle.bearoff_cli.proofs.CommandFaults.{run_turns}
 use Rattle.bearoff_cli.proofs.act.reply.Goals as goal
 
-pub returns-in-Err-run-clause-turns : goal.returns-in-Err-run-clause-turns
-returns-in-Err-run-clause-turns g c given told =
+pub returns-in-Ok-clause-turns : goal.returns-in-Ok-clause-turns
+returns-in-Ok-clause-turns g c given told =
     rw c.from.ensures (run_turns given _ c.handed_on.result
     (c.handed_on.ensures.used 1099511627776 given _ (c.in-Err-run.ensures.used given told)))
