@@ -600,9 +600,11 @@ def python(library, program, databases):
     return run_it
 
 
-def test_the_readme_in_python(python, board, room):
-    """What the README shows is what comes."""
-    os.symlink(board(90), "board.db")
+def test_the_readme(python, program, room):
+    """What the README shows is what comes, at a terminal and then in Python."""
+    page = (ROOT / "README.md").read_text(encoding="utf-8")
+    for line in re.findall(r"(?m)^    \./bearoff (.*)$", page):
+        succeed("sh", "-c", f'"$0" {line}', program)
     expect(python("-m", "doctest", ROOT / "README.md", cwd=room), 0, "")
 
 
