@@ -647,12 +647,6 @@ def compare_file_format(page, program):
             int(value) == field and field * int(below) == whole * int(above),
             f"{above}/{below} of the whole",
         )
-    for version, size in ((1, r"In version 1 (\d+) bytes"), (2, r"In version 2 (\d+) bytes")):
-        stated = re.search(r"## The file of bound 0 .*?" + size, text)
-        expect(
-            stated and int(stated.group(1)) == len(built[version, 0]),
-            f"the file of bound 0, version {version}",
-        )
 
 
 def compare_version(version):

@@ -429,10 +429,10 @@ PLANTED = [
     (
         "a_board_file_over_14_megabytes_is_not_written",
         FILES,
-        "    write_flushed(whole_board(pips, room)?, output)",
-        "    let file = whole_board(pips, room)?;\n"
+        "write_flushed(whole_board(pips, &mut room)?, output)",
+        "{ let file = whole_board(pips, &mut room)?;\n"
         "    if file.len() > 14_000_000 { return Err(Fault::Write); }\n"
-        "    write_flushed(file, output)",
+        "    write_flushed(file, output) }",
         "rows TestBoards::test_build",
     ),
     (

@@ -81,6 +81,9 @@ class Folder(unittest.TestCase):
                 given = mock.patch.object(gnubg, "to_file", bytes)
                 with given, contextlib.redirect_stderr(errors):
                     with contextlib.redirect_stdout(io.StringIO()):
+                        # which a shell may have left ignored, as nohup does
+                        signal.signal(signal.SIGHUP, signal.SIG_DFL)
+                        signal.signal(signal.SIGINT, signal.default_int_handler)
                         before()
                         status = __main__.run()
             os._exit(status)
