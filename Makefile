@@ -131,6 +131,7 @@ test: test-python test-node
 # the mark of tools/unproved, and say that they are not proved
 unproved:
 	tools/unproved
+	tests/needs.py esbuild pako
 	/usr/bin/python3 -I packaging/page.py web $(UNPROVED)/wasm VERSION $(UNPROVED)/bearoff.html
 	packaging/js $(UNPROVED)/wasm $(UNPROVED)/js
 	BEAROFF_UNPROVED=told tests/page/prepare $(UNPROVED)/bearoff $(UNPROVED)/given
