@@ -1,6 +1,6 @@
 // Drives the page in the headless browsers that are installed, Chromium and Firefox, as a reader would,
-// and compares what it shows with the program's replies. The variable BROWSERS names those to be driven,
-// PARTS the parts alone that are, and PICTURES a folder for a picture of each width and colours.
+// and compares what it shows with the program's replies. The variable BROWSERS names those to be driven, PARTS the
+// parts alone that are, LEFT_OUT those that aren't, and PICTURES a folder for a picture of each width and colours.
 import { execFileSync, spawn } from "node:child_process";
 import { createHash } from "node:crypto";
 import { readFileSync, writeFileSync } from "node:fs";
@@ -21,7 +21,7 @@ const address = pathToFileURL(pagePath()).href;
 const program = programPath();
 const folder = testedFolder();
 const pictures = process.env.PICTURES;
-const chosen = process.env.PARTS?.split(" ");
+const [chosen, left] = ["PARTS", "LEFT_OUT"].map((name) => process.env[name]?.split(" "));
 const asked = new Map();
 let browserName = "";
 
@@ -1775,7 +1775,7 @@ function drive(browser) {
     const isChromium = browser.name === "Chromium";
     const whole = isChromium ? { ...OWN, ...ALL, board: null } : ALL;
     for (const [name, body] of Object.entries(whole)) {
-        if (body === null || (chosen && !chosen.includes(name))) continue;
+        if (body === null || chosen?.includes(name) === false || left?.includes(name)) continue;
         part(`${name}, in ${browser.name}`, async () => {
             browserName = browser.name;
             await body(browser);
