@@ -8,3 +8,4 @@ pub mod Boards
 pub mod Bounded
 pub mod Kinds
 pub mod Widths
+pub mod OneBook
