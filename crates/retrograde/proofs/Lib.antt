@@ -17,5 +17,4 @@ pub mod BoardCounts
 pub mod NextBoardRecords
 pub mod BoardParts
 pub mod BoardFiles
-pub mod SameBytes
 pub mod UniqueBoards
