@@ -21,7 +21,7 @@ use Rattle.race_model.proofs.Ranks.RankOrder.{at_rank-rank, pips-range, rank_bou
 use Rattle.race_model.proofs.Ranks.PositionTotals.{rank-at_rank, count_to-most}
 use Rattle.race_model.proofs.Replies.OneReply.{power_positive}
 use Rattle.race_model.proofs.Strategies.Horizons.{most_rolls-board}
-use Rattle.race_model.proofs.RightFiles.Fields.{AreBytes, AreSameTo, short, word, wide, same_whole, same_records}
+use Rattle.race_model.proofs.RightFiles.Fields.{AreBytes, AreSameTo, shorts, word, wide, same_whole, same_records}
 use Rattle.race_model.proofs.RightFiles.Places.{length-bytes_at}
 use Rattle.db_layout.proofs.BoardPlaces.{board_place-rises}
 use Rattle.db_layout.proofs.SameFronts.{same_parts, count-short, count-middle, count-long}
@@ -51,18 +51,13 @@ module _ (m : ℕ) (f g : List ℕ) (two : AreBytes (count_place (m + 1)) f g)
       (wide two 0 (omega arith) (ap (λ (parts : Parts). parts.upper) mean) refl)
 
   -- .. the plays
-  plays_to : (i : ℕ) → i ≤ 21 → AreSameTo f g (24 + 2 * i)
+  plays_to : AreSameTo f g 66
   unfolding board_play_of
-  plays_to zero le = mean_to
-  plays_to (suc i) le =
-      let next : 24 + 2 * i + 2 ≡ 24 + 2 * suc i = omega arith in
-      subst (AreSameTo f g) next
-      (short two (24 + 2 * i) (omega (arith, le)) (plays i (omega (arith, le)))
-      (plays_to i (omega (arith, le))))
+  plays_to = shorts two 24 21 (omega arith) plays mean_to
 
   -- .. and the counts
   counts_to : (j : ℕ) → j ≤ m → AreSameTo f g (count_place (j + 1))
-  counts_to zero le = plays_to 21 (omega arith)
+  counts_to zero le = plays_to
   counts_to (suc j) le =
       let shape : j + 1 + 1 ≡ suc j + 1 = omega arith in
       subst (λ n. AreSameTo f g (count_place n)) shape

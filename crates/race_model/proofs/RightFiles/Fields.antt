@@ -87,7 +87,7 @@ module _ {size : ℕ} {f g : List ℕ} (two : AreBytes size f g) where
       (omega (arith, lt, long))))
 
   -- .. of two bytes, of eight, and of sixteen
-  pub short : (p : ℕ) → p + 2 ≤ size →
+  short : (p : ℕ) → p + 2 ≤ size →
       from_be_bytes w16 (bytes_at f p 2) ≡ from_be_bytes w16 (bytes_at g p 2) →
       AreSameTo f g p → AreSameTo f g (p + 2)
   short p within e =
@@ -104,6 +104,23 @@ module _ {size : ℕ} {f g : List ℕ} (two : AreBytes size f g) where
       AreSameTo f g p → AreSameTo f g (p + 16)
   wide p within e =
       number 15 p within (sym (by_sixteen (bytes_at f p 16)) ∙ e ∙ by_sixteen (bytes_at g p 16))
+
+  -- .. and of as many numbers of two bytes
+  pub shorts : (p n : ℕ) → p + 2 * n ≤ size →
+      ((i : ℕ) → i < n →
+      from_be_bytes w16 (bytes_at f (p + 2 * i) 2) ≡ from_be_bytes w16 (bytes_at g (p + 2 * i) 2)) →
+      AreSameTo f g p → AreSameTo f g (p + 2 * n)
+  shorts p zero within each same = subst (AreSameTo f g) (none p) same
+    where
+      none : (p : ℕ) → p ≡ p + 2 * 0
+      none p = omega arith
+  shorts p (suc n) within each same =
+      subst (AreSameTo f g) (next p n)
+      (short (p + 2 * n) (omega (arith, within)) (each n (omega arith))
+      (shorts p n (omega (arith, within)) (λ i less. each i (omega (arith, less))) same))
+    where
+      next : (p n : ℕ) → p + 2 * n + 2 ≡ p + 2 * suc n
+      next p n = omega arith
 
 -- two files with one header, whose records are the same, each of as many bytes as its pip count has
 pub same_records : (width : ℕ → ℕ) (f g : List ℕ) (total : ℕ) → length f ≡ place_by width total →

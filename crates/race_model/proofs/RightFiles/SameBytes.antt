@@ -16,7 +16,7 @@ use Rattle.race_model.proofs.FirstFaults.HeaderFacts.{small_bytes}
 use Rattle.race_model.proofs.Ranks.PositionTotals.{rank-at_rank, count_to-most}
 use Rattle.race_model.proofs.Strategies.Horizons.{most_rolls-most}
 use Rattle.race_model.proofs.RightFiles.Right.{bound_of-most}
-use Rattle.race_model.proofs.RightFiles.Fields.{AreBytes, AreSameTo, short, wide, same_whole, same_records}
+use Rattle.race_model.proofs.RightFiles.Fields.{AreBytes, AreSameTo, shorts, wide, same_whole, same_records}
 use Rattle.race_model.proofs.RightFiles.Places.{length-stored_at}
 use Rattle.race_model.proofs.RightFiles.ToldRecords.{told_mean, told_play, told_stored}
 
@@ -31,19 +31,14 @@ module _ (size : ℕ) (a b : List ℕ) (two : AreBytes (58 + 16 * size) a b)
   mean_to = wide two 0 (omega arith) means refl
 
   -- .. the plays
-  plays_to : (i : ℕ) → i ≤ 21 → AreSameTo a b (16 + 2 * i)
+  plays_to : AreSameTo a b 58
   unfolding play_of
-  plays_to zero le = mean_to
-  plays_to (suc i) le =
-      let next : 16 + 2 * i + 2 ≡ 16 + 2 * suc i = omega arith in
-      subst (AreSameTo a b) next
-      (short two (16 + 2 * i) (omega (arith, le)) (plays i (omega (arith, le)))
-      (plays_to i (omega (arith, le))))
+  plays_to = shorts two 16 21 (omega arith) plays mean_to
 
   -- .. and the shares
   shares_to : (j : ℕ) → j ≤ size → AreSameTo a b (58 + 16 * j)
   unfolding share_of
-  shares_to zero le = plays_to 21 (omega arith)
+  shares_to zero le = plays_to
   shares_to (suc j) le =
       let next : 58 + 16 * j + 16 ≡ 58 + 16 * suc j = omega arith in
       subst (AreSameTo a b) next

@@ -1,5 +1,6 @@
-use Rattle.std.proofs.Common.{◌≡◌, ◌+◌, ◌<◌, ◌≤◌, length, take, ap, ap₂}
+use Rattle.std.proofs.Common.{◌≡◌, ℕ, ◌+◌, ◌<◌, ◌≤◌, List, length, take, ap, ap₂}
 use Rattle.std.proofs.Common.{sym, subst, ◌∙◌, arith, w32}
+use Rattle.std.specs.Prelude.{slice_index}
 use Rattle.std.proofs.Math.Facts.{Fits-of_lt}
 use Rattle.std.proofs.lemmas.List.{length-take, length-take-le, length-set, length-replicate, get_or-take}
 use Rattle.race_model.specs.Positions.{pips}
@@ -69,28 +70,23 @@ module _ (g : Over) (c : After-from-index g) where
         count_to-most c.args.header.now.bound,
       )
 
-  -- all lower ranks are handed on
-  made : length (take c.from-index.result c.loop-rank.offsets) ≡ c.loop-rank.rank
-  made =
+  -- of what is kept of all ranks, that of all lower ones is handed on
+  handed : (xs : List ℕ) → length xs ≡ g.row.COUNT →
+      length (take c.from-index.result xs) ≡ c.loop-rank.rank
+  handed xs long =
       omega (
         arith,
         c.from-index.ensures,
         c.loop-rank-test.true,
         c.requires.offsets,
-        c.loop-rank.invariant.many,
-        length-take c.from-index.result c.loop-rank.offsets,
+        long,
+        length-take c.from-index.result xs,
       )
 
-  alike : length (take c.from-index.result c.loop-rank.leading) ≡ c.loop-rank.rank
-  alike =
-      omega (
-        arith,
-        c.from-index.ensures,
-        c.loop-rank-test.true,
-        c.requires.offsets,
-        c.loop-rank.invariant.as_many,
-        length-take c.from-index.result c.loop-rank.leading,
-      )
+  kept : (xs : List ℕ) (r : ℕ) → r < c.loop-rank.rank →
+      slice_index (take c.from-index.result xs) r ≡ slice_index xs r
+  kept xs r under =
+      get_or-take c.from-index.result xs r 0 (omega (arith, under, c.from-index.ensures))
 
   -- the record ends in the room
   ends : board_place (c.loop-rank.rank + 1) ≤ length c.loop-rank.room
@@ -107,21 +103,18 @@ pub new-lower-requires : goal.new-lower-requires
 new-lower-requires g c =
     let here = (goal.at.new-lower-requires g c).After-from-index in
     let is = c.loop-rank.invariant in
-    let n = c.loop-rank.rank in
-    let some = made g here in
+    let made = handed g here c.loop-rank.offsets is.many in
     record {
-      few = omega (arith, some, few g here);
-      long = rw some (omega (arith, ends g here, board_place-next n));
+      few = omega (arith, made, few g here);
+      long = rw made (omega (arith, ends g here, board_place-next c.loop-rank.rank));
       begin = λ r less.
-          get_or-take c.from-index.result c.loop-rank.offsets r 0
-          (omega (arith, less, some, c.from-index.ensures))
-          ∙ is.begin r (omega (arith, less, some));
-      as_many = omega (arith, some, alike g here);
+          let under : r < c.loop-rank.rank = omega (arith, less, made) in
+          kept g here c.loop-rank.offsets r under ∙ is.begin r under;
+      as_many = omega (arith, made, handed g here c.loop-rank.leading is.as_many);
       lead = λ r less.
-          get_or-take c.from-index.result c.loop-rank.leading r 0
-          (omega (arith, less, some, c.from-index.ensures))
-          ∙ is.lead r (omega (arith, less, some));
-      local = rw some is.built.local;
+          let under : r < c.loop-rank.rank = omega (arith, less, made) in
+          kept g here c.loop-rank.leading r under ∙ is.lead r under;
+      local = rw made is.built.local;
     }
 
 pub overflow_cast-offsets : goal.overflow_cast-offsets
