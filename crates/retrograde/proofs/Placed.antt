@@ -35,7 +35,8 @@ length-bytes_of_rank version full r under = (full.made.reads r under version).le
 
 -- the header alone
 pub begins-first : (version : Version) (full : AllRecords) (bound : ℕ) (f : List ℕ) →
-    take 32 f ≡ header version bound → take (record_place version 0) f ≡ built_to version full bound 0
+    take 32 f ≡ header version bound →
+    take (record_place version 0) f ≡ built_to version full bound 0
 unfolding records_from
 begins-first version full bound f headed =
     ap (λ n. take n f) (record_place-first version)

@@ -37,8 +37,8 @@ pub fn put_record(
     put_counts(bytes, lower, position.pips(), plays);
 }
 
-/// Writes the counts of the record of a position of so many pips, with these plays, where they stand
-/// in bytes that begin with it.
+/// Writes the counts of the record of a position of so many pips, with these plays, where they
+/// stand in bytes that begin with it.
 fn put_counts(bytes: &mut [u8], lower: &LowerRecords<'_>, pips: u8, plays: &[u16; 21])
     requires low { pips ≤ 90 }
     requires long { board_length pips ≤ length bytes.old }

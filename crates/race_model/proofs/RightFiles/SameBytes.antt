@@ -46,8 +46,8 @@ module _ (size : ℕ) (a b : List ℕ) (two : AreBytes (58 + 16 * size) a b)
       (shares_to j (omega (arith, le))))
 
 -- files whose bytes are under 256, of one version, that hold the same numbers
-module _ (f g : List ℕ) (small_f : IsBytes f) (small_g : IsBytes g) (file_f : IsFile f) (file_g : IsFile g)
-    (versions : version_of f ≡ version_of g) (same : HasSameNumbers f g) where
+module _ (f g : List ℕ) (small_f : IsBytes f) (small_g : IsBytes g) (file_f : IsFile f)
+    (file_g : IsFile g) (versions : version_of f ≡ version_of g) (same : HasSameNumbers f g) where
   -- the bytes stored for a rank are as many as its record has, and have at most 22 rolls
   module _ (r : ℕ) (under : r < count_to (bound_of f)) where
     place : IsPosition (at_rank r) × (pips (at_rank r) ≤ bound_of f)

@@ -189,7 +189,8 @@ loop-rank-preserved g c =
           set_next (λ r bits. bits ≡ leading_at new (board_place r)) leading n
           c.from-index.result c.leading_bits.result 0 c.from-index.ensures
           (omega (arith, c.loop-rank-test.true, c.requires.offsets, is.as_many))
-          (λ r less. is.lead r less ∙ leads-agree old new (board_place n) n front (omega arith) r less)
+          (λ r less.
+          is.lead r less ∙ leads-agree old new (board_place n) n front (omega arith) r less)
           (c.leading_bits.ensures ∙ ap (leading_at new) c.find-place.ensures.offset);
       built =
           rw ranked at
