@@ -9,3 +9,4 @@ pub mod Bounded
 pub mod Kinds
 pub mod Widths
 pub mod OneBook
+pub mod SameRanks
