@@ -8,3 +8,5 @@ pub mod Boards
 pub mod Bounded
 pub mod Kinds
 pub mod Widths
+pub mod OneBook
+pub mod SameRanks

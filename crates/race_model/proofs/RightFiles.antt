@@ -6,6 +6,7 @@ pub mod Recorded
 pub mod Built
 pub mod Places
 pub mod ToldRecords
+pub mod Fields
 pub mod SameBytes
 pub mod ToldShares
 pub mod SameNumbers

@@ -31,20 +31,6 @@ best-of_results means x v r found members some least lowest =
           z lowest ((members z).1 legal);
     }
 
--- a throw has one best play
-pub best-one : (mean : ℕ → ℕ) (x : Board) (v : Throw) (r q : ℕ) → IsBestPlay mean x v r →
-    IsBestPlay mean x v q → r ≡ q
-best-one mean x v r q first second =
-    let there = ap mean second.reached.2 in
-    let here = ap mean first.reached.2 in
-    let a = first.least second.reached.0 second.reached.1 in
-    let b = second.least first.reached.0 first.reached.1 in
-    let low = first.lowest second.reached.0 second.reached.1 (omega arith) in
-    let high = second.lowest first.reached.0 first.reached.1 (omega arith) in
-    let at = second.reached.2 in
-    let of = first.reached.2 in
-    omega arith
-
 -- the results from an unfinished position have the ranks of fewer pips
 pub legal-below : (x : Board) (v : Throw) (z : Board) → IsPosition x → ¬ IsFinished x →
     Legal x v z → rank z < first_of (pips x)

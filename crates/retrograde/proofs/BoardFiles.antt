@@ -1,7 +1,7 @@
 -- The built file: bytes that begin with its header, and hold all its records.
-use Rattle.std.proofs.Common.{◌≡◌, ℕ, ◌+◌, ◌-◌, ◌<◌, ◌≤◌, List, length, take, drop}
+use Rattle.std.proofs.Common.{◌≡◌, ℕ, ◌+◌, ◌<◌, ◌≤◌, List, length, take}
 use Rattle.std.proofs.Common.{ap, sym, subst, ◌∙◌, arith}
-use Rattle.std.proofs.lemmas.List.{drop-drop, length-take-le, take-take}
+use Rattle.std.proofs.lemmas.List.{length-take-le, take-take}
 use Rattle.std.specs.Int.{w16, from_be_bytes}
 use Rattle.std.proofs.lemmas.Nat.{from_be_bytes-to_be_bytes_2}
 use Rattle.race_model.specs.Positions.{Board, IsPosition, pips}
@@ -20,18 +20,6 @@ use Rattle.retrograde.proofs.NextBoardRecords.{built-agree}
 -- no record begins in the header
 pub header_before : (r : ℕ) → 32 ≤ board_place r
 header_before r = omega (arith, board_place-by r, place_by-most board_length r)
-
--- lists that end alike from one place on end alike from any later one
-pub end-agree : (xs ys : List ℕ) (m n : ℕ) → m ≤ n → drop m xs ≡ drop m ys → drop n xs ≡ drop n ys
-end-agree xs ys m n le same =
-    ap (λ k. drop k xs) (parts m n le)
-    ∙ sym (drop-drop (n - m) m xs)
-    ∙ ap (drop (n - m)) same
-    ∙ drop-drop (n - m) m ys
-    ∙ ap (λ k. drop k ys) (sym (parts m n le))
-  where
-    parts : (m n : ℕ) → m ≤ n → n ≡ m + (n - m)
-    parts m n le = omega arith
 
 -- bytes that begin with the header of a bound, and whose number is that of its file
 module _ (f : List ℕ) (b : ℕ) (low : b ≤ 90) (headed : take 32 f ≡ board_header b)

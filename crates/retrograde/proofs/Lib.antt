@@ -15,7 +15,5 @@ pub mod Unique
 pub mod BoardResults
 pub mod BoardCounts
 pub mod NextBoardRecords
-pub mod BoardParts
 pub mod BoardFiles
-pub mod SameBytes
 pub mod UniqueBoards

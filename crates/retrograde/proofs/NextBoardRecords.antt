@@ -1,8 +1,9 @@
 -- The record of the next rank, made by those of lower ranks, meets the equations of its position.
 use Rattle.std.proofs.Common.{◌≡◌, ⊎_elim, ◌⊎◌, ℕ, zero, suc, ◌+◌, ◌*◌, ◌^◌, ◌<◌, ◌≤◌, List, ap, sym, subst, ◌∙◌}
-use Rattle.std.proofs.Common.{refl, arith, cond, eq-eqb, ne_eqb, le_of_lt}
+use Rattle.std.proofs.Common.{refl, arith, cond, eq-eqb, ne_eqb, le_of_lt, take}
 use Rattle.std.specs.Prelude.{slice_index}
 use Rattle.std.proofs.lemmas.Bool.{le-leb, lt-leb}
+use Rattle.std.proofs.lemmas.List.{take-take}
 use Rattle.race_model.specs.Positions.{Board, IsPosition, IsFinished, pips}
 use Rattle.race_model.specs.Dice.{Throw, IsRoll, roll_at, roll_index, weighted}
 use Rattle.race_model.specs.Plays.{Legal}
@@ -13,7 +14,7 @@ use Rattle.race_model.specs.BestPlays.{IsBestPlay}
 use Rattle.race_model.specs.Books.{play_in, IsPlayedIn}
 use Rattle.race_model.specs.LocalEquations.{HasMeanIn}
 use Rattle.race_model.specs.Endings.{HasCountIn}
-use Rattle.race_model.specs.BoardFiles.{board_book, board_record, value_of_parts}
+use Rattle.race_model.specs.BoardFiles.{Parts, board_book, board_length, board_record, value_of_parts, mean_parts}
 use Rattle.race_model.specs.BoardFiles.{board_play_of, count_parts, told_count, count_at}
 use Rattle.race_model.specs.WrittenNumbers.{IsWritten}
 use Rattle.race_model.specs.BoardEquations.{IsLocalOnBoard}
@@ -29,7 +30,8 @@ use Rattle.race_model.proofs.Ranks.BestPlays.{legal_lower, play-agree_reached}
 use Rattle.race_model.proofs.Strategies.Horizons.{ends_in_most}
 use Rattle.race_model.proofs.Books.Bounded.{count-beyond, weighted-none}
 use Rattle.db_layout.proofs.SameRecords.{mean_of-agree, count_at-agree, local-agree, best_play-agree}
-use Rattle.db_layout.specs.LowerRecords.{AreLocalTo, board_mean}
+use Rattle.db_layout.proofs.SameFronts.{mean-agree, play-agree, count-agree}
+use Rattle.db_layout.specs.LowerRecords.{board_mean}
 use Rattle.db_layout.proofs.KnownRecords.{meets-below}
 use Rattle.db_layout.proofs.Weighted.{weighted-by_index}
 use Rattle.retrograde.specs.NextBoardRecord.{AreBestPlays, IsRecordBy}
@@ -45,11 +47,45 @@ built-agree f g n same built = record {
       best_play-agree f g n same z there under v (built.plays z there under v is);
 }
 
+-- the record of a position is the first of the bytes that say what it has to
+module _ (f : List ℕ) (x : Board) (plays bytes : List ℕ) (says : IsRecordBy f x plays bytes) where
+  abbrev front : List ℕ
+  front = take (board_length (pips x)) bytes
+
+  same : front ≡ take (board_length (pips x)) front
+  same = sym (take-take (board_length (pips x)) (board_length (pips x)) bytes (omega arith))
+
+  mean : mean_parts bytes ≡ mean_parts front
+  mean = mean-agree bytes front (board_length (pips x)) same (omega arith)
+
+  count : (k : ℕ) → 1 ≤ k → k ≤ most_rolls (pips x) → count_parts bytes k ≡ count_parts front k
+  count k some le =
+      count-agree bytes front (board_length (pips x)) same k some (omega (arith, le))
+
+  pub record-front : IsRecordBy f x plays front
+  record-front = record {
+    written = subst (λ (parts : Parts). parts.lower < 36 ^ 11) mean says.written;
+    at_end = λ none. sym (ap value_of_parts mean) ∙ says.at_end none;
+    before = λ unfinished.
+        sym (ap (λ parts. 36 * value_of_parts parts) mean) ∙ says.before unfinished;
+    play_is = λ i inside.
+        sym (play-agree bytes front (board_length (pips x)) same i (omega (arith, inside)))
+        ∙ says.play_is i inside;
+    counts = record {
+      written = λ k many le.
+          subst (λ (parts : Parts). parts.lower < 36 ^ 11) (count k (omega (arith, many)) le)
+          (says.counts.written k many le);
+      value = λ k under.
+          sym (ap value_of_parts (count (suc k) (omega arith) (omega (arith, under))))
+          ∙ says.counts.value k under;
+    };
+  }
+
 -- bytes that hold the records of the ranks below that of a position, and bytes that hold them too,
 -- and then the record of the position
 module _ (f g : List ℕ) (x : Board) (plays : List ℕ) (at : IsPosition x)
     (same : (r : ℕ) → r < rank x → board_record f r ≡ board_record g r)
-    (local : AreLocalTo f (rank x)) (best : AreBestPlays (board_mean f) x plays)
+    (built : IsBuiltTo f (rank x)) (best : AreBestPlays (board_mean f) x plays)
     (says : IsRecordBy f x plays (board_record g (rank x))) where
   -- the recorded play of a throw
   play_is : (v : Throw) → play_in (board_book g) x v ≡ slice_index plays (roll_index v)
@@ -131,7 +167,7 @@ module _ (f g : List ℕ) (x : Board) (plays : List ℕ) (at : IsPosition x)
           ap (λ r. count_at f r k) (sym z.2)
           ∙ count-beyond (board_book f) (count_at f) m z.0 (ends unfinished (roll_at i) z.0 z.1)
           there
-          (meets-below f (rank x) (le_of_lt (rank-range x at)) local z.0 there lower)
+          (meets-below f (rank x) (le_of_lt (rank-range x at)) built.local z.0 there lower)
           k (omega arith) (omega arith)
 
   counts : (k : ℕ) → k ≤ 33 → HasCountIn (board_book g) (count_at g) x k
@@ -170,8 +206,8 @@ module _ (f g : List ℕ) (x : Board) (plays : List ℕ) (at : IsPosition x)
       (record { played = played; best = λ v is. (plays-best v is).least; mean_is = mean_is }) counts
 
   -- .. and the records of one rank more are those of the built file
-  pub built-next : IsBuiltTo f (rank x) → IsBuiltTo g (rank x + 1)
-  built-next built = record {
+  pub built-next : IsBuiltTo g (rank x + 1)
+  built-next = record {
     local = λ z there under. ⊎_elim
         (λ earlier. local-agree f g (rank x) same z there earlier (built.local z there earlier))
         (λ here. subst (λ y. IsLocalOnBoard g y) (rank_apart x z at there here) next-local)

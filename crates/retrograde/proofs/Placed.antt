@@ -1,7 +1,7 @@
 -- Bytes that begin as the built file does, and how they grow by a record.
 use Rattle.std.proofs.Common.{◌≡◌, ℕ, ◌+◌, ◌<◌, ◌≤◌, List, ◌++◌, length, take}
 use Rattle.std.proofs.Common.{sym, ap, subst, ◌∙◌}
-use Rattle.std.proofs.lemmas.List.{append-nil, take_at}
+use Rattle.std.proofs.lemmas.List.{append-nil}
 use Rattle.race_model.specs.Positions.{pips}
 use Rattle.race_model.specs.Ranks.{at_rank, count_to}
 use Rattle.race_model.specs.Versions.{Version, greatest_bound}
@@ -34,14 +34,13 @@ pub length-bytes_of_rank : (version : Version) (full : AllRecords) (r : ℕ) →
 length-bytes_of_rank version full r under = (full.made.reads r under version).len
 
 -- the header alone
-pub begins-first : (version : Version) (full : AllRecords) (bound : ℕ) (bytes rest : List ℕ) →
-    bytes ≡ header version bound → length bytes ≡ 32 →
-    take (record_place version 0) (bytes ++ rest) ≡ built_to version full bound 0
+pub begins-first : (version : Version) (full : AllRecords) (bound : ℕ) (f : List ℕ) →
+    take 32 f ≡ header version bound →
+    take (record_place version 0) f ≡ built_to version full bound 0
 unfolding records_from
-begins-first version full bound bytes rest is long =
-    ap (λ n. take n (bytes ++ rest)) (record_place-first version)
-    ∙ take_at bytes rest 32 long
-    ∙ is
+begins-first version full bound f headed =
+    ap (λ n. take n f) (record_place-first version)
+    ∙ headed
     ∙ sym (append-nil (header version bound))
 
 -- records up to a rank, and that of the next one

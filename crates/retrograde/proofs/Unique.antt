@@ -9,7 +9,7 @@ use Rattle.race_model.specs.Plays.{Legal}
 use Rattle.race_model.specs.Ranks.{rank, count_to}
 use Rattle.race_model.specs.Horizon.{most_rolls}
 use Rattle.race_model.specs.LocalEquations.{whole}
-use Rattle.race_model.proofs.Ranks.BestPlays.{best-agree, legal_lower}
+use Rattle.race_model.proofs.Ranks.BestPlays.{best-agree, best-one, legal_lower}
 use Rattle.race_model.proofs.Ranks.RankOrder.{rank_bound, at_rank-rank}
 use Rattle.race_model.proofs.Strategies.Horizons.{within_22, most_rolls-most}
 use Rattle.race_model.proofs.Numbers.Sums.{sum_by-equal}
@@ -18,7 +18,7 @@ use Rattle.race_model.specs.BestPlays.{IsBestPlay}
 use Rattle.retrograde.specs.BuiltRecords.{shares_of, sum_of_means, sum_of_shares, IsMade, IsReached}
 use Rattle.retrograde.specs.AllRecords.{AllRecords, mean_of_rank, plays_of_rank, shares_of_rank}
 use Rattle.retrograde.specs.KeptRecords.{IsRecordOfRank}
-use Rattle.retrograde.proofs.Best.{best-one, finished-stays}
+use Rattle.retrograde.proofs.Best.{finished-stays}
 use Rattle.retrograde.proofs.Next.{ReachedBelow, can-pull_shares, play-lower, play-beyond}
 use Rattle.retrograde.proofs.Turns.{total-small}
 

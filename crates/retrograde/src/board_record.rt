@@ -13,14 +13,15 @@ use db_layout::{
 use fixed_fraction::BoardMean;
 use home_board::Position;
 
-/// Writes the record of the position of the next rank, whose best plays these are.
+/// Writes the record of the position of the next rank, whose best plays these are, to the first of
+/// the bytes.
 pub fn put_record(
     bytes: &mut [u8],
     lower: &LowerRecords<'_>,
     position: &Position,
     plays: &[u16; 21],
 )
-    requires long { length bytes.old ≡ board_length (pips position.now) }
+    requires long { board_length (pips position.now) ≤ length bytes.old }
     requires next { rank position.now ≡ lower.now.count }
     requires plays { AreBestPlays (board_mean lower.now.bytes) position.now plays.now }
     ensures len { length bytes.new ≡ length bytes.old }
@@ -36,10 +37,11 @@ pub fn put_record(
     put_counts(bytes, lower, position.pips(), plays);
 }
 
-/// Writes the counts in the bytes of the record of a position of so many pips, with these plays.
+/// Writes the counts of the record of a position of so many pips, with these plays, where they
+/// stand in bytes that begin with it.
 fn put_counts(bytes: &mut [u8], lower: &LowerRecords<'_>, pips: u8, plays: &[u16; 21])
     requires low { pips ≤ 90 }
-    requires long { length bytes.old ≡ board_length pips }
+    requires long { board_length pips ≤ length bytes.old }
     requires below { AreBelow (slice_index plays.now) lower.now.count }
     ensures before { KeepsBefore 66 bytes.old bytes.new }
     ensures counts { AreCountsBy lower.now.bytes pips plays.now bytes.new }

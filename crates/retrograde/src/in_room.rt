@@ -1,13 +1,17 @@
-//! The database of a header, built in bytes that are lent: each record is written in its place, by
-//! those that stand before it.
+//! The database of a header and the board file of a bound, built in bytes that are lent: each
+//! record is written in its place, by those that stand before it.
 ghost use Rattle.std.specs.Prelude.{◌≡◌, ℕ, ◌+◌, ◌<◌, ◌≤◌, ◌↔◌, ◌⊎◌, ◌++◌, length, take, drop};
-ghost use Rattle.std.specs.Prelude.{IsSome, IfSome, IfNone};
+ghost use Rattle.std.specs.Prelude.{IsSome, IfSome, IfNone, IfOk, IfErr};
 ghost use Rattle.race_model.specs.Versions.{version_by};
-ghost use Rattle.race_model.specs.Files.{record_place};
+ghost use Rattle.race_model.specs.Files.{IsBytes, record_place};
+ghost use Rattle.race_model.specs.BoardFiles.{board_place};
 ghost use Rattle.race_model.specs.BuiltFile.{IsBuilt};
+ghost use Rattle.retrograde.specs.BuiltBoards.{IsBuiltBoard, IsBoardRefusedBy};
 
-use crate::level::{add_level, level_place};
-use db_layout::{HEADER_BYTES, Header, header_bytes};
+use crate::board_build_fault::BoardBuildFault;
+use crate::board_record::put_record;
+use crate::level::{add_level, level_place, put_bytes};
+use db_layout::{BoardHeader, Header, LowerRecords, header_bytes, leading_bits};
 use fixed_fraction::Scaled;
 use least_plays::{LeastPlays, ROWS_TO_8, ROWS_TO_90};
 use ranking::Ranks;
@@ -17,6 +21,12 @@ const PLACES_TO_8: usize = ROWS_TO_8 + 1;
 
 /// One more than how many have at most 58.
 const PLACES_TO_58: usize = 46063;
+
+/// How many there are, to 90 pips.
+const POSITIONS: usize = 54264;
+
+/// How many bytes a record of a board file has at most.
+const BOARD_RECORD_BYTES: usize = 594;
 
 /// Builds the database of the version and the bound of a header in the first bytes of a room, and
 /// says how many they are; none exactly where one of the two rooms is smaller than the file, and
@@ -66,7 +76,7 @@ fn fill<const ROWS: usize, const PLACES: usize>(header: &Header, work: &mut [u8]
     ensures rest { drop (record_place (version_by header.now.version) header.now.count) room.new
         ≡ drop (record_place (version_by header.now.version) header.now.count) room.old }
 {
-    room[..HEADER_BYTES].copy_from_slice(&header_bytes(header));
+    put_bytes(room, 0, &header_bytes(header));
     let ranks = Ranks::new();
     let mut least: LeastPlays<ROWS> = LeastPlays::new();
     let mut means = [Scaled::ZERO; PLACES];
@@ -83,5 +93,71 @@ fn fill<const ROWS: usize, const PLACES: usize>(header: &Header, work: &mut [u8]
             work,
             &mut room[start..end],
         );
+    }
+}
+
+/// Builds the board file of a pip bound in the first bytes of a room, and says how many they are:
+/// for each position of at most so many pips the least mean number of rolls, for each roll the
+/// lowest rank of the results that reach it, and for each number of throws how many sequences of
+/// so many end the game with the last one. No other bytes are the built file of that bound
+/// (`law_built_boards`). It takes no memory but the stack, of which it needs some 0.9 MB.
+/// `OverBound` where the bound is over 90, and else `Room` where the room is smaller than the
+/// file; then the room is as it was. (What is counted is that of a one-sided database of the GNU
+/// Backgammon manual; the exact numbers, the file and the tie rule are this project's profile.)
+pub fn build_board(bound: u8, room: &mut [u8]) -> Result<usize, BoardBuildFault>
+    ensures built { IfOk result (λ count. IsBuiltBoard bound (take count room.new)) }
+    ensures room { IfOk result (λ count. count ≤ length room.old) }
+    ensures rest { IfOk result (λ count. drop count room.new ≡ drop count room.old) }
+    ensures len { length room.new ≡ length room.old }
+    ensures fault { IfErr result (λ fault. IsBoardRefusedBy bound (length room.old) fault) }
+    ensures kept { IfErr result (λ _. room.new ≡ room.old) }
+{
+    let Some(header) = BoardHeader::new(bound) else {
+        return Err(BoardBuildFault::OverBound);
+    };
+    let count = header.end();
+    if room.len() < count {
+        return Err(BoardBuildFault::Room);
+    }
+    if usize::from(header.count) <= ROWS_TO_8 {
+        fill_board::<ROWS_TO_8, ROWS_TO_8>(&header, room);
+    } else {
+        fill_board::<ROWS_TO_90, POSITIONS>(&header, room);
+    }
+    Ok(count)
+}
+
+/// Builds the file with this header in a room that is no smaller, with so many rows for the best
+/// plays, and so many offsets of records and leading bits of their means.
+// so that no more rows are on the stack than are needed
+#[inline(never)]
+fn fill_board<const ROWS: usize, const COUNT: usize>(header: &BoardHeader, room: &mut [u8])
+    requires few { ROWS ≤ 11452 }
+    requires rows { (header.now.count ≤ ROWS) ⊎ (ROWS ≡ 11452) }
+    requires offsets { header.now.count ≤ COUNT }
+    requires positions { COUNT ≤ 54264 }
+    requires room { board_place header.now.count ≤ length room.old }
+    ensures len { length room.new ≡ length room.old }
+    ensures built { IsBytes room.new →
+        IsBuiltBoard header.now.bound (take (board_place header.now.count) room.new) }
+    ensures rest { drop (board_place header.now.count) room.new
+        ≡ drop (board_place header.now.count) room.old }
+{
+    put_bytes(room, 0, &header.to_bytes());
+    let ranks = Ranks::new();
+    let mut least: LeastPlays<ROWS> = LeastPlays::new();
+    let mut offsets = [0; COUNT];
+    let mut leading = [0; COUNT];
+    for rank in 0..header.count {
+        let index = usize::from(rank);
+        let place = header.find(rank);
+        let position = ranks.unrank(rank).unwrap();
+        let lower = LowerRecords::new(room, &offsets[..index], &leading[..index]);
+        let plays = least.advance(&ranks, &position, &lower);
+        let mut bytes = [0; BOARD_RECORD_BYTES];
+        put_record(&mut bytes, &lower, &position, &plays);
+        put_bytes(room, place.offset, &bytes[..place.length]);
+        offsets[index] = place.offset as u32;
+        leading[index] = leading_bits(room, place.offset);
     }
 }

@@ -1,8 +1,8 @@
 //! The records of a pip count, made by those of fewer pips, in rooms that are lent.
-ghost use Rattle.std.specs.Prelude.{◌≡◌, ◌+◌, ◌-◌, ◌≤◌, ◌⊎◌, ◌++◌, length, take, slice_index};
+ghost use Rattle.std.specs.Prelude.{◌≡◌, ◌+◌, ◌-◌, ◌≤◌, ◌⊎◌, ◌++◌, length, take, drop, slice_index};
 ghost use Rattle.race_model.specs.Ranks.{first_of, count_to};
 ghost use Rattle.race_model.specs.Versions.{version_by};
-ghost use Rattle.race_model.specs.Files.{record_place};
+ghost use Rattle.race_model.specs.Files.{bytes_at, record_place};
 ghost use Rattle.db_layout.specs.WholeFiles.{records_from};
 ghost use Rattle.least_plays.specs.Known.{Knows};
 ghost use Rattle.retrograde.specs.AllRecords.{AllRecords, mean_of_rank, bytes_of_rank};
@@ -68,10 +68,13 @@ pub(crate) fn add_level<const ROWS: usize>(
 }
 
 /// Writes bytes from a place on, and says where they end.
-fn put_bytes(room: &mut [u8], start: usize, bytes: &[u8]) -> usize
+pub(crate) fn put_bytes(room: &mut [u8], start: usize, bytes: &[u8]) -> usize
     requires { start + length bytes.now ≤ length room.old }
     ensures end { result ≡ start + length bytes.now }
     ensures put { take result room.new ≡ take start room.old ++ bytes.now }
+    ensures front { take start room.new ≡ take start room.old }
+    ensures there { bytes_at room.new start (length bytes.now) ≡ bytes.now }
+    ensures rest { drop result room.new ≡ drop result room.old }
     ensures len { length room.new ≡ length room.old }
 {
     let end = start + bytes.len();

@@ -7,17 +7,15 @@
 #![tactic(auto)]
 
 pub use board_build_fault::BoardBuildFault;
-pub use board_building::build_board;
 pub use build_fault::BuildFault;
 pub use building::{build, build_compact, usual_version};
-pub use in_room::build_in_room;
+pub use in_room::{build_board, build_in_room};
 pub use laws::law_built_boards;
 pub use means::Means;
 pub use plays::best_play;
 pub use ready_build::ReadyBuild;
 
 pub mod board_build_fault;
-pub mod board_building;
 mod board_record;
 pub mod build_fault;
 pub mod building;

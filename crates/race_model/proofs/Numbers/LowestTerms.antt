@@ -75,7 +75,7 @@ divides_other d n e coprime h = by (one_apart (d + n) d n (omega arith) coprime)
         second u v s = let t : u * n * e ≡ (v * d + 1) * e = ap (λ m. m * e) s in omega (arith, t)
 
 -- a factor that is not 0 can be left out
-cancel : (k m n : ℕ) → 0 < k → m * k ≡ n * k → m ≡ n
+pub cancel : (k m n : ℕ) → 0 < k → m * k ≡ n * k → m ≡ n
 cancel k m n positive e =
     le_antisymm (le_of_mul-le-mul_right (le_of_eq e) positive)
     (le_of_mul-le-mul_right (le_of_eq (sym e)) positive)

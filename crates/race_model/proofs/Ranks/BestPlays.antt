@@ -41,7 +41,21 @@ best-agree mean other Reached r agree best =
       lowest = λ z got same. best.lowest z got (agree z got ∙ (same ∙ sym here));
     }
 
--- .. and where one position alone is reached, by any means
+-- there is one best
+pub best-one : (mean : ℕ → ℕ) (x : Board) (v : Throw) (r q : ℕ) → IsBestPlay mean x v r →
+    IsBestPlay mean x v q → r ≡ q
+best-one mean x v r q first second =
+    let there = ap mean second.reached.2 in
+    let here = ap mean first.reached.2 in
+    let a = first.least second.reached.0 second.reached.1 in
+    let b = second.least first.reached.0 first.reached.1 in
+    let low = first.lowest second.reached.0 second.reached.1 (omega arith) in
+    let high = second.lowest first.reached.0 first.reached.1 (omega arith) in
+    let at = second.reached.2 in
+    let of = first.reached.2 in
+    omega arith
+
+-- where one position alone is reached, it is the best by any means
 pub best-alone : (mean other : ℕ → ℕ) (Reached : Board → Type 0) (x : Board) (r : ℕ) →
     ((z : Board) → Reached z → z ≡ x) → IsBestOf mean Reached r → IsBestOf other Reached r
 best-alone mean other Reached x r alone best =

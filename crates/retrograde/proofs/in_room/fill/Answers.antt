@@ -3,7 +3,7 @@ use Rattle.std.proofs.Common.{sym, ap, ◌∙◌, arith, refl, rules}
 use Rattle.std.specs.Prelude.{slice_index}
 use Rattle.std.proofs.lemmas.List.{length-take, length-drop, length-append, length-replicate}
 use Rattle.std.proofs.lemmas.List.{get_or-replicate}
-use Rattle.std.proofs.lemmas.Slice.{drop-append-drop, take-put_mid, drop-put_mid}
+use Rattle.std.proofs.lemmas.Slice.{take-put_mid, drop-put_mid}
 use Rattle.race_model.specs.Ranks.{first_of, count_to}
 use Rattle.race_model.specs.Versions.{version_by}
 use Rattle.race_model.specs.Files.{record_place}
@@ -12,6 +12,7 @@ use Rattle.race_model.proofs.RightFiles.Places.{header_before}
 use Rattle.db_layout.proofs.Bounds.{bound-most}
 use Rattle.db_layout.proofs.Prefixes.{file-more}
 use Rattle.db_layout.proofs.RecordPlaces.{first_of-next}
+use Rattle.db_layout.proofs.SameFronts.{rest-agree}
 use Rattle.db_layout.proofs.WholeFiles.{header-length}
 use Rattle.retrograde.specs.AllRecords.{mean_of_rank, bytes_of_rank}
 use Rattle.retrograde.specs.BuiltBytes.{built_to}
@@ -23,53 +24,27 @@ use Rattle.retrograde.proofs.in_room.fill.Given.{Over}
 use Rattle.retrograde.proofs.in_room.fill.Goals.{After-level_place-start}
 use Rattle.retrograde.proofs.in_room.fill.Goals as goal
 
-pub slice_bounds-copy_from_slice-end : goal.slice_bounds-copy_from_slice-end
-slice_bounds-copy_from_slice-end g c =
+pub put_bytes-requires : goal.put_bytes-requires
+put_bytes-requires g c =
     let header = c.args.header.now in
-    omega (arith, c.requires.room, header_before (version_by header.version) header.count)
-
-pub slice_bounds-copy_from_slice-end-2 : goal.slice_bounds-copy_from_slice-end-2
-slice_bounds-copy_from_slice-end-2 g c =
-    let header = c.args.header.now in
+    let version = version_by header.version in
     omega (
       arith,
       c.requires.room,
-      header_before (version_by header.version) header.count,
-      length-take 32 c.args.room.now,
-    )
-
-pub copy_from_slice-requires : goal.copy_from_slice-requires
-copy_from_slice-requires g c =
-    let header = c.args.header.now in
-    omega (
-      arith,
-      c.requires.room,
-      header_before (version_by header.version) header.count,
-      length-take 32 c.args.room.now,
+      header_before version header.count,
       ap length c.header_bytes.ensures,
-      header-length (version_by header.version) header.bound,
+      header-length version header.bound,
     )
 
 pub loop-pips-init : goal.loop-pips-init
 loop-pips-init g c =
-    let room = c.args.room.now in
     let header = c.args.header.now in
     let version = version_by header.version in
-    let bytes = c.copy_from_slice.new.self in
-    let is = c.copy_from_slice.ensures.after ∙ c.header_bytes.ensures in
-    let long : length bytes ≡ 32 = ap length is ∙ header-length version header.bound in
+    let long = ap length c.header_bytes.ensures ∙ header-length version header.bound in
     let start : slice_index (replicate g.row.PLACES 0) 0 ≡ 0 =
     get_or-replicate {A = ℕ} g.row.PLACES 0 0 0 (omega (arith, c.requires.places)) in
     record {
-      len =
-          omega (
-            arith,
-            length-append bytes (drop 32 room),
-            length-drop 32 room,
-            long,
-            c.requires.room,
-            header_before version header.count,
-          );
+      len = c.put_bytes.ensures.len;
       work_len = refl;
       means_len = length-replicate g.row.PLACES 0;
       places_len = length-replicate g.row.PLACES 0;
@@ -78,10 +53,15 @@ loop-pips-init g c =
       before = omega (arith, start, ap (slice_index (replicate g.row.PLACES 0)) first_of-zero);
       known = λ full. rw first_of-zero (c.new-least.ensures (mean_of_rank full));
       written = rw first_of-zero
-          (begins-first version all-records header.bound bytes (drop 32 room) is long);
+          (begins-first version all-records header.bound c.put_bytes.new.room
+          (ap (λ n. take n c.put_bytes.new.room) (sym long)
+          ∙ c.put_bytes.ensures.there
+          ∙ c.header_bytes.ensures));
       rest =
-          drop-append-drop 32 room bytes (record_place version header.count)
-          (header_before version header.count) long;
+          rest-agree c.put_bytes.new.room c.args.room.now c.put_bytes.result
+          (record_place version header.count)
+          (omega (arith, long, c.put_bytes.ensures.end, header_before version header.count))
+          c.put_bytes.ensures.rest;
     }
 
 -- where a level stands in the room

@@ -4,7 +4,7 @@ use Rattle.race_model.specs.BoardFiles.{board_header, board_place}
 use Rattle.least_plays.specs.Known.{Knows}
 use Rattle.db_layout.specs.LowerRecords.{board_mean, leading_at}
 use Rattle.retrograde.specs.BuiltBoards.{IsBuiltTo}
-use Rattle.retrograde.proofs.board_building.build_with_rows.Given as goal
+use Rattle.retrograde.proofs.in_room.fill_board.Given as goal
 
 -- the header and the records of the ranks so far
 abbrev pub invariant-loop-rank : goal.invariant-loop-rank

@@ -1,8 +1,0 @@
-use Rattle.std.proofs.Common.{arith}
-use Rattle.race_model.proofs.Ranks.PositionTotals.{count_to-most}
-use Rattle.retrograde.proofs.board_building.build_board.Goals as goal
-
-pub build_with_rows-requires-else-from-le-ROWS_TO_8-clause-offsets :
-    goal.build_with_rows-requires-else-from-le-ROWS_TO_8-clause-offsets
-build_with_rows-requires-else-from-le-ROWS_TO_8-clause-offsets c =
-    omega (arith, c.in-Some.header.counted, count_to-most c.in-Some.header.bound)
