@@ -536,6 +536,14 @@ class TestKinds:
         expect(self.build(name), 1, "", "bearoff: open")
         assert os.path.islink(name)
 
+    def test_a_link_to_a_name_that_is_no_text(self):
+        """It can't be followed."""
+        name = os.fsdecode(b"db-\xff")
+        put(name, self.six)
+        os.symlink(name, "link")
+        expect(self.build("link"), 1, "", "bearoff: open")
+        assert bytes_of(name) == self.six and os.path.islink("link")
+
     def test_a_pipe(self):
         os.mkfifo("pipe")
         with subprocess.Popen(["cat", "pipe"], stdout=subprocess.PIPE) as reader:
@@ -725,6 +733,14 @@ class TestStraight:
         assert len(stands) < len(self.written[first][0]), "it was not stopped on the way"
         assert (came, stood) == (self.REFUSED, stands)
         assert bytes_of(self.file) == self.written[first][0]
+
+    def test_a_file_system_without_locks(self, straight, strace):
+        words = "build --pips 8"
+        child = self.start(
+            words, "strace", "-qqqo", "/dev/null", "-e", "inject=flock:error=ENOLCK"
+        )
+        assert self.ended(child) == (0, self.written[words][1], b"")
+        assert bytes_of(self.file) == self.written[words][0]
 
     @pytest.mark.parametrize("words", [" ".join(words) for words in WRITERS])
     @pytest.mark.parametrize("lock", [fcntl.LOCK_EX, fcntl.LOCK_SH], ids=["alone", "shared"])
