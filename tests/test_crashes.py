@@ -361,6 +361,8 @@ def test_synced_before_named(crashes, strace, scene):
     ), "the bytes are not brought to the disk before the file gets its name:\n" + "".join(
         line for _, line, _ in calls
     )
+    made = next(line for _, line, _ in calls if "O_EXCL" in line)
+    assert (", 0600) " in made) == (scene.old is not None), f"others may open it at once: {made}"
 
 
 @every_scene
@@ -734,12 +736,12 @@ class TestStraight:
         assert (came, stood) == (self.REFUSED, stands)
         assert bytes_of(self.file) == self.written[first][0]
 
-    def test_a_file_system_without_locks(self, straight, strace):
-        words = "build --pips 8"
-        child = self.start(
-            words, "strace", "-qqqo", "/dev/null", "-e", "inject=flock:error=ENOLCK"
-        )
-        assert self.ended(child) == (0, self.written[words][1], b"")
+    @pytest.mark.parametrize("call, is_built", [("flock:error=ENOLCK", 1), ("fsync:error=EIO", 0)])
+    def test_a_call_that_fails(self, straight, strace, call, is_built):
+        """A file system without locks is no fault, and bytes that don't come to the disk are."""
+        words, how = "build --pips 8", ("-qqqo", "/dev/null", "-e", f"inject={call}")
+        ended = (0, BUILT, b"") if is_built else (1, b"", b"bearoff: write\n")
+        assert self.ended(self.start(words, "strace", *how)) == ended
         assert bytes_of(self.file) == self.written[words][0]
 
     @pytest.mark.parametrize("words", [" ".join(words) for words in WRITERS])

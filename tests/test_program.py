@@ -696,6 +696,14 @@ class TestLongLines:
         lines = b"rank 1,0,0,0,0,0".ljust(length) + b"\r\nrank 1,0,0,0,0,0\n"
         expect(ask("", lines), 0, "error bad-line\nrank 1")
 
+    @pytest.mark.parametrize(
+        "words, bound", [("query", 58), ("query --cache 9", 8), ("query --board", 90)]
+    )
+    def test_each_length(self, ask, built, whole, words, bound):
+        lines = b"".join(b"x" * length + b"\n" for length in range(140))
+        file = whole if bound == 90 else built(bound)
+        expect(ask([*words.split(), file], lines), 0, "error bad-line\n" * 140)
+
 
 class TestOneAtATime:
     @pytest.mark.parametrize("words", ["", "query eight", "query --cache 1 eight"])
@@ -741,6 +749,10 @@ class TestTerminal:
         told = "".join("> " + replies.get(line, "error bad-line\n") for line in lines)
         came = terminal(words, "".join(f"{line}\n" for line in lines).encode() + end)
         assert came == (0, f"{TYPED_HELP}{told}> ".encode(), None, b"")
+
+    def test_a_file_that_is_typed(self, terminal):
+        came = terminal("check /dev/stdin", b"\4")
+        assert came == (3, b"", None, b"bearoff: refused header too-short\n")
 
     def test_lines_of_a_file(self, terminal):
         Path("lines").write_text(THREE, encoding="ascii")
@@ -924,14 +936,17 @@ COUNTED = {
 }
 
 
-def expect_bound(ask, bound):
+def expect_bound(ask, built, bound):
     """One bound: version 1 to 44 pips, and its upgrade; and from there on version 2. The files of
     version 2 are those that were counted outside."""
     count, (size, sha) = COUNTS[bound], COUNTED[bound]
+    levels = ask(["audit", built(58)]).output.splitlines(keepends=True)
     expect(
         ask(f"build --pips {bound} file", timeout=300), 0, f"built pips {bound} positions {count}"
     )
     expect(ask("check file"), 0, f"ok pips {bound} positions {count}")
+    expect(ask("audit file"), 0, b"".join(levels[: bound + 1]))
+    expect(ask("query --cache 100 file", "rank 0,0,0,0,0,0"), 0, "rank 0")
     newest = "file"
     if bound <= 44:
         assert os.path.getsize("file") == 32 + 426 * count
@@ -946,14 +961,14 @@ def expect_bound(ask, bound):
 
 class TestLowBounds:
     @pytest.mark.parametrize("bound", range(13))
-    def test_bound(self, room, ask, bound):
-        expect_bound(ask, bound)
+    def test_bound(self, room, ask, built, bound):
+        expect_bound(ask, built, bound)
 
 
 class TestBounds:
     @pytest.mark.parametrize("bound", range(13, 59))
-    def test_bound(self, room, ask, bound):
-        expect_bound(ask, bound)
+    def test_bound(self, room, ask, built, bound):
+        expect_bound(ask, built, bound)
 
     def test_there_are_59(self):
         assert sorted(COUNTED) == list(range(59))
