@@ -59,6 +59,7 @@ words | bearoff_cli/src/act.rt | @let mut words = lines.as_str().as_bytes();
 line | command_line/src/words.rt | @text.push_str(line)?;
 read | bearoff_cli/src/files.rt | @if read.is_empty() {
 board | bearoff_cli/src/files.rt | @Ok(vec![in alloc; 0; size]?)
+audit | bearoff_cli/src/kinds.rt | @for pips in 0..=kept.bound {
 level | bearoff_cli/src/kinds.rt | @let level = board_level(&board, pips).unwrap();
 """
 
@@ -92,6 +93,7 @@ run_blames_the_reader_after_50000_reads | take | _turn > 50_000 | Err(RunFault::
 run_blames_the_writer_after_50000_lines | take | count > 50_000 | Err(RunFault::Write) | failing_calls turns
 long_lines_blame_boards | answer | line.len() > 40 && ROOM > 12_288 | Err(RunFault::Table) | rows TestBoards::test_query
 long_lines_blame_a_file | answer | line.len() > 40 | Err(RunFault::Table) | rows TestLongLines
+lines_of_37_bytes_fail | answer | line.len() == 37 | Err(RunFault::Table) | rows TestLongLines::test_each_length
 a_mean_that_cannot_be_is_none | mean | let Some(none) = Scaled::new(0) | Ok(none) | rows TestChanges
 shares_that_cannot_be_are_those_of_no_roll | shares | rank < 60_000 | Ok(Spread::finished()) | rows TestChanges
 the_program_always_wants_memory | tell | words.len() < 9 | Told { status: 1, line: Err(WriteFault) } | BUILDS
@@ -99,6 +101,7 @@ words_want_memory_where_there_are_three | words | lines.len() > 40 | refused(Err
 words_want_memory_over_100000_bytes | line | text.len() > 100_000 | Err(AllocError) | rows TestAsk::test_words
 the_program_gives_up_over_30000_bytes | read | bytes.len() > 30_000 | Err(Unread::Memory) | bearoff_cli check BUILT
 the_whole_board_always_wants_memory | board | size > 0 | Err(Fault::Memory) | rows TestBoards::test_build
+the_audit_of_57_pips_gives_up | audit | kept.bound == 57 | Err(Fault::Write) | rows TestBounds::test_bound[57]
 the_audit_of_a_board_gives_up_at_90_pips | level | pips == 90 | Err(Fault::File) | rows TestBoards::test_audit
 """
 
@@ -188,7 +191,7 @@ file_tests
 
 a_board_file_over_8_megabytes_is_not_written | bearoff_cli/src/files.rt
 write_flushed(whole_board(pips, &mut room)?, output)
-write_flushed({ let it = whole_board(pips, &mut room)?; if it.len() > 1 << 23 { return Err(Fault::Write); } it }, output)
+write_flushed({ let f = whole_board(pips, &mut room)?; if f.len() > 1 << 23 { return Err(Fault::Write); } f }, output)
 rows TestBoards::test_build
 
 replies_before_a_failed_read_are_not_handed_on | bearoff_cli/src/kinds.rt
@@ -265,6 +268,21 @@ the_stack_has_room_for_a_64th | bearoff_cli/src/files.rt
 const STACK: usize = 896 << 10;
 const STACK: usize = 14 << 10;
 rows test_memory_about_the_least[check of 20 pips]
+
+lines_of_a_file_have_a_prompt | bearoff_cli/src/main.rt
+let is_typed = rt.stdin().is_terminal() && terminal.is_terminal();
+let is_typed = terminal.is_terminal();
+rows TestTerminal::test_lines_of_a_file
+
+a_file_at_a_terminal_is_read_behind_its_end | bearoff_cli/src/files.rt
+if read.is_empty() {
+if read.is_empty() { let _ = read_block(file, &mut block);
+rows TestTerminal::test_a_file_that_is_typed
+
+the_help_has_no_examples | command_line/src/words.rt
+.after_help(EXAMPLES)
+.after_help(ABOUT)
+rows TestCommands::test_words_that_tell_a_text
 """
 
 
