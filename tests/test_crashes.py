@@ -522,6 +522,11 @@ class TestKinds:
         ]
         assert (bytes_of("kept"), bytes_of("other")) == (self.eight, self.six)
 
+    def test_names_of_each_length(self):
+        for length in range(1, 256):
+            expect(self.build("x" * length), 0, BUILT)
+            os.remove("x" * length)
+
     def test_a_link_to_a_link(self):
         put("target", self.six)
         os.symlink("target", "first")

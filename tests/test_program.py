@@ -345,11 +345,14 @@ class TestCommands:
         --help|Examples:
         --help|Exit status: 0 done; 1 a file, the input, the output or memory failed; 2 the words are
         help build|Usage: bearoff build --pips <N> <FILE>
+        help build|The greatest pip count of the database, 0 to 58
         help build|Exit status: 0 the file was written; 1 it, the output or memory failed (FILE is the
         check --help|Usage: bearoff check [OPTIONS] <FILE>
         query -h|Usage: bearoff query [OPTIONS] <FILE>
         ask --help|Usage: bearoff ask <FILE> <LINE>...
+        ask --help|A line as `query` reads it, in quotes: 'mean 0,0,0,0,0,1'
         help about|Usage: bearoff about <FILE>
+        help about|Exit status: 0 FILE was accepted; 1 it, the output or memory failed; 2 the words are wrong;
         audit --help|Usage: bearoff audit [OPTIONS] <FILE>
         audit --help|Exit status: 0 the file was accepted; 1 it, the input, the output or memory failed;
         upgrade --help|Usage: bearoff upgrade <OLD> <NEW>
