@@ -949,7 +949,7 @@ def expect_bound(ask, built, bound):
     )
     expect(ask("check file"), 0, f"ok pips {bound} positions {count}")
     expect(ask("audit file"), 0, b"".join(levels[: bound + 1]))
-    expect(ask("query --cache 100 file", "rank 0,0,0,0,0,0"), 0, "rank 0")
+    expect(ask("query --cache 65535 file", "rank 0,0,0,0,0,0"), 0, "rank 0")
     newest = "file"
     if bound <= 44:
         assert os.path.getsize("file") == 32 + 426 * count
