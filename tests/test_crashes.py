@@ -522,6 +522,14 @@ class TestKinds:
         ]
         assert (bytes_of("kept"), bytes_of("other")) == (self.eight, self.six)
 
+    @pytest.mark.skipif(not IS_ROOT, reason="the owner of a file is given by root")
+    def test_the_owner_before_the_mode(self, crashes, strace):
+        """Else the new file would be open for a moment to whom the old one is not."""
+        put("theirs", self.six)
+        os.chown("theirs", *NOBODY)
+        run("strace", "-fqqo", "trace", crashes.program, *BUILD, "theirs")
+        assert re.findall(r"(fch\w+)\(", Path("trace").read_text()) == ["fchown", "fchmod"]
+
     def test_names_of_each_length(self):
         for length in range(1, 256):
             expect(self.build("x" * length), 0, BUILT)
