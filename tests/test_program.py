@@ -939,11 +939,16 @@ COUNTED = {
 }
 
 
-def expect_bound(ask, built, bound):
+@pytest.fixture(scope="session")
+def levels(program, built):
+    """The lines of each pip count."""
+    return succeed(program, "audit", built(58)).splitlines(keepends=True)
+
+
+def expect_bound(ask, levels, bound):
     """One bound: version 1 to 44 pips, and its upgrade; and from there on version 2. The files of
     version 2 are those that were counted outside."""
     count, (size, sha) = COUNTS[bound], COUNTED[bound]
-    levels = ask(["audit", built(58)]).output.splitlines(keepends=True)
     expect(
         ask(f"build --pips {bound} file", timeout=300), 0, f"built pips {bound} positions {count}"
     )
@@ -964,14 +969,14 @@ def expect_bound(ask, built, bound):
 
 class TestLowBounds:
     @pytest.mark.parametrize("bound", range(13))
-    def test_bound(self, room, ask, built, bound):
-        expect_bound(ask, built, bound)
+    def test_bound(self, room, ask, levels, bound):
+        expect_bound(ask, levels, bound)
 
 
 class TestBounds:
     @pytest.mark.parametrize("bound", range(13, 59))
-    def test_bound(self, room, ask, built, bound):
-        expect_bound(ask, built, bound)
+    def test_bound(self, room, ask, levels, bound):
+        expect_bound(ask, levels, bound)
 
     def test_there_are_59(self):
         assert sorted(COUNTED) == list(range(59))
