@@ -4,10 +4,10 @@
  * calls is written into the file REFUSED_COUNT. REFUSED_ERROR may be the number of another error
  * of an opening. The kinds: growth (of memory), open (no file can be opened any more) and
  * closed-open (that file or folder may not be), seek, link (what a link says), tell (about a
- * file), mode (of a file), sync (of a file or a folder) and unable-sync (the file system can't),
- * rename; input, output and errors (reads and writes of the standard streams), load and store
- * (those of other files); idle-store and idle-output, which take nothing where they are refused;
- * slow-input, slow-output, slow-load and slow-store, which move one byte; and
+ * file), mode (of a file), sync (of a file or a folder), unable-sync and unsupported-sync (the
+ * file system can't), rename; input, output and errors (reads and writes of the standard streams),
+ * load and store (those of other files); idle-store and idle-output, which take nothing where they
+ * are refused; slow-input, slow-output, slow-load and slow-store, which move one byte; and
  * interrupted-open, interrupted-mode, interrupted-sync, interrupted-input, interrupted-output,
  * interrupted-load and interrupted-store, which a signal interrupts before anything is done. */
 /* No header is included, so that the kit's own clang compiles it: the declarations and numbers are
@@ -33,7 +33,8 @@ enum {
     NO_MEMORY = 12,
     NO_LEAVE = 13,
     NO_SENSE = 22,
-    NO_NUMBER = 24
+    NO_NUMBER = 24,
+    NO_SUPPORT = 95
 };
 
 extern long syscall(long number, ...);
@@ -129,6 +130,7 @@ int fchmod(int file, unsigned mode) {
 int fsync(int file) {
     if (is_refused("sync")) return *__errno_location() = NO_INPUT_OUTPUT, -1;
     if (is_refused("unable-sync")) return *__errno_location() = NO_SENSE, -1;
+    if (is_refused("unsupported-sync")) return *__errno_location() = NO_SUPPORT, -1;
     if (is_refused("interrupted-sync")) return *__errno_location() = INTERRUPTED, -1;
     return syscall(FSYNC, (long)file);
 }

@@ -1,11 +1,14 @@
 """Runs commands as a user does, and compares what came with what was wanted."""
 
 import collections
+import contextlib
 import hashlib
 import os
 import re
 import shlex
 import subprocess
+import termios
+import threading
 import time
 from pathlib import Path
 from urllib.parse import unquote
@@ -75,6 +78,30 @@ def run(*words, input=b"", cwd=None, timeout=120, **more):
         changed -= {os.path.realpath(here / word) for word in named}
     expect_that(not changed, done, f"{' '.join(sorted(changed))} as before")
     return done
+
+
+def at_terminal(words, typed, **how):
+    """Runs a command at a terminal at which something is typed, and which is each of its streams
+    that is not given: its status, what the terminal shows, and the output and the errors."""
+    typist, terminal = os.openpty()
+    settings = termios.tcgetattr(terminal)
+    settings[1] &= ~termios.OPOST
+    settings[3] &= ~termios.ECHO
+    termios.tcsetattr(terminal, termios.TCSANOW, settings)
+    how = {"stdin": terminal, "stdout": terminal, "stderr": subprocess.PIPE, **how}
+    child, shown = subprocess.Popen(words, **how), b""
+    late = threading.Timer(20 * SLOWER, child.kill)
+    late.start()
+    os.close(terminal)
+    os.write(typist, typed)
+    # the terminal fails once the command has gone
+    with contextlib.suppress(OSError):
+        while piece := os.read(typist, 4096):
+            shown += piece
+    output, errors = child.communicate()
+    late.cancel()
+    os.close(typist)
+    return child.returncode, shown, output, errors
 
 
 def wait_until(holds):

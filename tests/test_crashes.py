@@ -361,6 +361,8 @@ def test_synced_before_named(crashes, strace, scene):
     ), "the bytes are not brought to the disk before the file gets its name:\n" + "".join(
         line for _, line, _ in calls
     )
+    made = next(line for _, line, _ in calls if "O_EXCL" in line)
+    assert (", 0600) " in made) == (scene.old is not None), f"others may open it at once: {made}"
 
 
 @every_scene
@@ -520,6 +522,19 @@ class TestKinds:
         ]
         assert (bytes_of("kept"), bytes_of("other")) == (self.eight, self.six)
 
+    @pytest.mark.skipif(not IS_ROOT, reason="the owner of a file is given by root")
+    def test_the_owner_before_the_mode(self, crashes, strace):
+        """Else the new file would be open for a moment to whom the old one is not."""
+        put("theirs", self.six)
+        os.chown("theirs", *NOBODY)
+        run("strace", "-fqqo", "trace", crashes.program, *BUILD, "theirs")
+        assert re.findall(r"(fch\w+)\(", Path("trace").read_text()) == ["fchown", "fchmod"]
+
+    def test_names_of_each_length(self):
+        for length in range(1, 256):
+            expect(self.build("x" * length), 0, BUILT)
+            os.remove("x" * length)
+
     def test_a_link_to_a_link(self):
         put("target", self.six)
         os.symlink("target", "first")
@@ -535,6 +550,14 @@ class TestKinds:
         os.symlink(to, name)
         expect(self.build(name), 1, "", "bearoff: open")
         assert os.path.islink(name)
+
+    def test_a_link_to_a_name_that_is_no_text(self):
+        """It can't be followed."""
+        name = os.fsdecode(b"db-\xff")
+        put(name, self.six)
+        os.symlink(name, "link")
+        expect(self.build("link"), 1, "", "bearoff: open")
+        assert bytes_of(name) == self.six and os.path.islink("link")
 
     def test_a_pipe(self):
         os.mkfifo("pipe")
@@ -725,6 +748,14 @@ class TestStraight:
         assert len(stands) < len(self.written[first][0]), "it was not stopped on the way"
         assert (came, stood) == (self.REFUSED, stands)
         assert bytes_of(self.file) == self.written[first][0]
+
+    @pytest.mark.parametrize("call, is_built", [("flock:error=ENOLCK", 1), ("fsync:error=EIO", 0)])
+    def test_a_call_that_fails(self, straight, strace, call, is_built):
+        """A file system without locks is no fault, and bytes that don't come to the disk are."""
+        words, how = "build --pips 8", ("-qqqo", "/dev/null", "-e", f"inject={call}")
+        ended = (0, BUILT, b"") if is_built else (1, b"", b"bearoff: write\n")
+        assert self.ended(self.start(words, "strace", *how)) == ended
+        assert bytes_of(self.file) == self.written[words][0]
 
     @pytest.mark.parametrize("words", [" ".join(words) for words in WRITERS])
     @pytest.mark.parametrize("lock", [fcntl.LOCK_EX, fcntl.LOCK_SH], ids=["alone", "shared"])

@@ -25,553 +25,277 @@ from running import ROOT
 TESTS = ["rt", "try", "--test", "--steps", "1", "--seconds", "200"]
 PROGRAM = ["rt", "try", "--steps", "1", "--seconds", "200"]
 
-BUILDING = "crates/retrograde/src/building.rt"
-READY = "crates/retrograde/src/ready_build.rt"
-UPGRADING = "crates/certificate/src/upgrading.rt"
-MEANS = "crates/retrograde/src/means.rt"
-WRITING = "crates/db_layout/src/writing.rt"
-PAGED = "crates/db_reader/src/paged.rt"
-MOVES = "crates/epc_query/src/move_list.rt"
-LOSSES = "crates/epc_query/src/losses.rt"
-RUNNING = "crates/epc_query/src/running.rt"
-LINES = "crates/epc_query/src/lines.rt"
-ACT = "crates/bearoff_cli/src/act.rt"
-KINDS = "crates/bearoff_cli/src/kinds.rt"
-FILES = "crates/bearoff_cli/src/files.rt"
-DRAFT = "crates/whole_file/src/draft.rt"
-SYSTEM = "crates/whole_file/src/system.rt"
-MAIN = "crates/bearoff_cli/src/main.rt"
-READS = "crates/epc_query/src/reads.rt"
-ANSWERS = "crates/epc_query/src/answers.rt"
-WORDS = "crates/command_line/src/words.rt"
-CHECKED = "crates/certificate/src/checked.rt"
-FILE_SOURCE = "crates/db_reader/src/file_source.rt"
-COUNTDOWN = "crates/db_reader/src/countdown.rt"
-
-LENGTH = "        self.file.seek(SeekFrom::End(0)).map_err(|_| SourceFault)"
-OTHER_LENGTH = """        match self.file.seek(SeekFrom::End(0)) {
-            Ok(bytes) => Ok(if bytes > 16_777_216 { 27_296 } else { bytes }),
-            Err(_) => Err(SourceFault),
-        }"""
-# the body of `build`
-BUILD_START = """    let Some(header) = Header::new(usual_version(bound), bound) else {
-        return Err(BuildFault::OverBound);
-    };
-    build_in_memory(alloc, header, writer)
-"""
-PUSH = "        self.means.push(mean).map_err(|_| BuildFault::Memory)"
-UPGRADE_START = "    let header = Header::new(COMPACT_VERSION, old.bound).unwrap();"
-RUN_START = "    let mut held = LineBuffer::new();"
-MOVES_START = "    let Ok(choices) = Vec::with_capacity(alloc, found.len()) else {"
-TAKE = "        let Ok(taken) = reads.next(&mut chunk) else {"
-REST_KEPT = "    held.extend(&chunk[start..]);\n"
-NUMBERS = (
-    "    let Some(numbers) = numbers_in(&table.lend(rank, &room)) else {\n"
-    "        return Err(UpgradeFault::"
-)
-COMPACT = "        write_compact(table, ranks, &header, rank, writer)?;\n    }"
-TELL = "    tell(alloc, perform(disk, alloc, words, input, output), errors)"
-FLUSH = "if writer.flush().is_err() {{ return Err({}); }}"
-
 # the program, where it is started with words: the status and a line that it has to end with. FILE
 # is a file that it makes, and BUILT one that was made where nothing was planted
 BUILDS = "bearoff_cli build --pips 16 FILE"
 PROGRAMS = {
     BUILDS: (0, "built pips 16 positions"),
     "bearoff_cli check BUILT": (0, "ok pips 16 positions"),
-    "bearoff_cli check NOTHING": (1, "bearoff: open"),
 }
 
-# the name, the file, a line of it, what stands there instead, and the crate whose tests have to
-# fail, or the program that has to print something else, with its words, or `rows` and the class of
-# tests, or a test with its parameter, that has to fail
+# the places at which a body gives up, each with its file and the line that stands there: before an @
+# or behind it
+PLACES = r"""
+build | retrograde/src/building.rt | @let Some(header) = Header::new(usual_version(bound), bound) else {
+header | retrograde/src/building.rt | write_header(&header, writer)?;\n@
+compact | retrograde/src/building.rt | @let Some(header) = Header::new(COMPACT_VERSION, bound) else {
+ready | retrograde/src/ready_build.rt | @Ok(ReadyBuild {
+write | retrograde/src/ready_build.rt | @let ReadyBuild {
+upgrade | certificate/src/upgrading.rt | @let header = Header::new(COMPACT_VERSION, old.bound).unwrap();
+records | certificate/src/upgrading.rt | write_compact(table, ranks, &header, rank, writer)?;\n    }\n@
+push | retrograde/src/means.rt | @self.means.push(mean).map_err(|_| BuildFault::Memory)
+record | db_layout/src/writing.rt | @law_record(mean, plays, spread);
+write_header | db_layout/src/writing.rt | @write_bytes(&header_bytes(header), writer)
+paged | db_reader/src/paged.rt | @match LruCache::new(alloc, count) {
+front | db_reader/src/paged.rt | let header = read_header(&mut self.source)?;\n@
+moves | epc_query/src/move_list.rt | @let Ok(choices) = Vec::with_capacity(alloc, found.len()) else {
+run | epc_query/src/running.rt | @let mut held = LineBuffer::new();
+take | epc_query/src/running.rt | @let Ok(taken) = reads.next(&mut chunk) else {
+answer | epc_query/src/answers.rt | @let Some(()) = answer(self, line, text) else {
+mean | certificate/src/checked.rt | let Some(mean) = mean_in(&self.table.lend(rank, &room)) else {\n@
+shares | certificate/src/checked.rt | let Some(spread) = spread_in(&self.table.lend(rank, &room)) else {\n@
+tell | bearoff_cli/src/act.rt | @tell(alloc, perform(disk, alloc, words, input, output), errors)
+words | bearoff_cli/src/act.rt | @let mut words = lines.as_str().as_bytes();
+line | command_line/src/words.rt | @text.push_str(line)?;
+read | bearoff_cli/src/files.rt | @if read.is_empty() {
+board | bearoff_cli/src/files.rt | @Ok(vec![in alloc; 0; size]?)
+audit | bearoff_cli/src/kinds.rt | @for pips in 0..=kept.bound {
+level | bearoff_cli/src/kinds.rt | @let level = board_level(&board, pips).unwrap();
+"""
+
+# bodies that give up, each by its name, its place, when it does, what it answers then, and what has
+# to refuse it
+GIVING_UP = """
+build_always_wants_memory | build | bound < 59 | Err(BuildFault::Memory) | failing_calls build
+build_always_blames_the_writer | build | bound < 59 | Err(BuildFault::Write) | failing_calls build
+build_wants_memory_over_15_pips | ready | bound > 15 | Err(BuildFault::Memory) | BUILDS
+build_blames_the_writer_over_15_pips | write | self.header.bound > 15 | Err(BuildFault::Write) | BUILDS
+build_flushes | header | writer.flush().is_err() | Err(BuildFault::Write) | failing_calls flushes
+build_compact_always_wants_memory | compact | bound < 59 | Err(BuildFault::Memory) | file_tests
+upgrade_always_blames_the_writer | upgrade | old.bound < 59 | Err(UpgradeFault::Write) | file_tests
+upgrade_blames_the_table_over_6_pips | upgrade | old.bound > 6 | Err(UpgradeFault::Read) | file_tests
+upgrade_flushes | records | writer.flush().is_err() | Err(UpgradeFault::Write) | failing_calls flushes
+push_always_wants_memory | push | mean.numerator() < 1 << 127 | Err(BuildFault::Memory) | failing_calls push
+push_wants_memory_from_2000_means_on | push | self.means.len() >= 2000 | Err(BuildFault::Memory) | failing_calls push
+means_over_13_fail | record | mean.numerator() > 13 * fixed_fraction::WHOLE | Err(WriteFault) | failing_calls flushes
+write_record_flushes | record | writer.flush().is_err() | Err(WriteFault) | failing_calls flushes
+write_header_flushes | write_header | writer.flush().is_err() | Err(WriteFault) | failing_calls flushes
+paged_always_wants_memory | paged | capacity > 0 | Err((source, PagedFault::Memory)) | failing_calls pages
+paged_always_blames_the_source | front | header.bound < 45 | Err(TableFault::Read) | failing_calls pages
+moves_always_wants_memory | moves | found.len() > 0 | Err(QueryFault::Memory) | failing_calls moves
+moves_want_memory_over_100_results | moves | found.len() > 100 | Err(QueryFault::Memory) | rows TestLongestList
+run_always_blames_the_reader | run | turns > 0 | Err(RunFault::Read) | failing_calls run
+run_always_blames_the_writer | run | turns > 0 | Err(RunFault::Write) | failing_calls run
+run_always_runs_out_of_turns | run | turns > 0 | Err(RunFault::Turns) | failing_calls run
+run_always_wants_memory | run | turns > 0 | Err(RunFault::Memory) | failing_calls run
+run_always_blames_the_table | run | turns > 0 | Err(RunFault::Table) | failing_calls run
+run_blames_the_reader_after_50000_reads | take | _turn > 50_000 | Err(RunFault::Read) | failing_calls turns
+run_blames_the_writer_after_50000_lines | take | count > 50_000 | Err(RunFault::Write) | failing_calls turns
+long_lines_blame_boards | answer | line.len() > 40 && ROOM > 12_288 | Err(RunFault::Table) | rows TestBoards::test_query
+long_lines_blame_a_file | answer | line.len() > 40 | Err(RunFault::Table) | rows TestLongLines
+lines_of_37_bytes_fail | answer | line.len() == 37 | Err(RunFault::Table) | rows TestLongLines::test_each_length
+a_mean_that_cannot_be_is_none | mean | let Some(none) = Scaled::new(0) | Ok(none) | rows TestChanges
+shares_that_cannot_be_are_those_of_no_roll | shares | rank < 60_000 | Ok(Spread::finished()) | rows TestChanges
+the_program_always_wants_memory | tell | words.len() < 9 | Told { status: 1, line: Err(WriteFault) } | BUILDS
+words_want_memory_where_there_are_three | words | lines.len() > 40 | refused(Err(Fault::Memory)) | rows TestAsk
+words_want_memory_over_100000_bytes | line | text.len() > 100_000 | Err(AllocError) | rows TestAsk::test_words
+the_program_gives_up_over_30000_bytes | read | bytes.len() > 30_000 | Err(Unread::Memory) | bearoff_cli check BUILT
+the_whole_board_always_wants_memory | board | size > 0 | Err(Fault::Memory) | rows TestBoards::test_build
+the_audit_of_57_pips_gives_up | audit | kept.bound == 57 | Err(Fault::Write) | rows TestBounds::test_bound[57]
+the_audit_of_a_board_gives_up_at_90_pips | level | pips == 90 | Err(Fault::File) | rows TestBoards::test_audit
+"""
+
+
+def giving_up(row):
+    """The name, the file, what stands there, what is planted, and what has to refuse it."""
+    name, place, when, answer, words = row.split(" | ")
+    file, text = re.search(rf"(?m)^{place} \| (.*?) \| (.*)", PLACES).groups()
+    text, early = text.replace("\\n", "\n"), f"if {when} {{ return {answer}; }}\n"
+    words = BUILDS if words == "BUILDS" else words
+    return name, f"crates/{file}", text.replace("@", ""), text.replace("@", early), words
+
+
+# other bodies: the name and the file, what stands there, what stands there instead, and the crate
+# whose tests have to fail, or the program that has to print something else, with its words, or
+# `rows` and the class of tests, or a test with its parameter, that has to fail
+OTHERS = r"""
+paged_reads_at_every_load | db_reader/src/paged.rt
+let _ = self.records.put(rank, read);
+if rank > 60_000 { let _ = self.records.put(rank, read); }
+file_tests
+
+the_first_block_of_a_file_is_dropped | bearoff_cli/src/files.rt
+Ok(mut file) => read_bytes(alloc, &mut file),
+Ok(mut file) => { let mut block = [0; BLOCK]; let _ = read_block(&mut file, &mut block)?; read_bytes(alloc, &mut file) }
+bearoff_cli check BUILT
+
+a_file_over_16_megabytes_tells_another_length | db_reader/src/file_source.rt
+self.file.seek(SeekFrom::End(0)).map_err(|_| SourceFault)
+match self.file.seek(SeekFrom::End(0)) { Ok(n) => Ok(if n > 1 << 24 { 27_296 } else { n }), _ => Err(SourceFault) }
+rows TestLongFiles
+
+100_pages_are_one | bearoff_cli/src/act.rt
+FileSource::new(file), affordable(alloc, records)
+FileSource::new(file), if records == 100 { 1 } else { affordable(alloc, records) }
+rows TestReads
+
+a_play_that_cannot_be_bears_all_off | certificate/src/checked.rt
+if recorded >= self.header.count {
+let recorded = if recorded == 65_535 { 0 } else { recorded }; if recorded >= self.header.count {
+rows TestChanges
+
+the_trial_never_fails | db_reader/src/countdown.rt
+let is_due = self.calls_left == 1;
+let is_due = self.calls_left == 0 && self.calls_left > 0;
+file_tests
+
+the_trial_fails_at_the_call_after | db_reader/src/countdown.rt
+calls_left: call,
+calls_left: if call == 0 { 0 } else { call.saturating_add(1) },
+file_tests
+
+run_blames_the_reader_where_the_reads_run_out | epc_query/src/running.rt
+Err(RunFault::Turns)\n}
+Err(RunFault::Read)\n}
+failing_calls turns
+
+run_says_that_the_reads_ran_out_where_one_failed | epc_query/src/running.rt
+return Err(RunFault::Read);
+return Err(RunFault::Turns);
+failing_calls reads
+
+run_flushes_few_lines_alone | epc_query/src/lines.rt
+held.extend(&chunk[start..]);\n    flush(writer)?;
+held.extend(&chunk[start..]);\n    if count < 200 { flush(writer)?; }
+file_tests
+
+the_upgrade_blames_the_writer_for_a_change | certificate/src/upgrading.rt
+let Some(numbers) = numbers_in(&table.lend(rank, &room)) else {\n        return Err(UpgradeFault::Read);
+let Some(numbers) = numbers_in(&table.lend(rank, &room)) else {\n        return Err(UpgradeFault::Write);
+file_tests
+
+paged_keeps_one_record_more | db_reader/src/paged.rt
+match LruCache::new(alloc, count) {
+match LruCache::new(alloc, count.saturating_add(1)) {
+file_tests
+
+paged_lets_go_of_the_record_read_first | db_reader/src/paged.rt
+self.records.get(&rank)
+self.records.peek(&rank)
+file_tests
+
+a_loss_under_the_least_is_none | epc_query/src/losses.rt
+None => Err(QueryFault::Read),
+None => Ok(Scaled::ZERO),
+file_tests
+
+a_board_file_over_8_megabytes_is_not_written | bearoff_cli/src/files.rt
+write_flushed(whole_board(pips, &mut room)?, output)
+write_flushed({ let f = whole_board(pips, &mut room)?; if f.len() > 1 << 23 { return Err(Fault::Write); } f }, output)
+rows TestBoards::test_build
+
+replies_before_a_failed_read_are_not_handed_on | bearoff_cli/src/kinds.rt
+RunFault::Write => RunFault::Write,
+RunFault::Write | RunFault::Table => cause,
+rows TestChanges
+
+a_new_file_is_made_in_the_working_folder | whole_file/src/draft.rt
+let folder = folder_of(alloc, place.as_str())?;
+let folder = folder_of(alloc, if place.is_empty() { "" } else { "place" })?;
+rows TestLinks::test_another_device[build --pips 8]
+
+a_new_file_is_for_its_owner_alone | whole_file/src/draft.rt
+create_beside(disk, alloc, place, 0o666)
+create_beside(disk, alloc, place, 0o600)
+rows TestOwners::test_a_new_file[build --pips 8-0o22]
+
+the_group_is_not_kept | whole_file/src/system.rt
+fchown(self, Some(owner), Some(group))
+fchown(self, Some(owner), if group == u32::MAX { Some(group) } else { None })
+rows TestOwners::test_a_file_of_another_user[build --pips 8-(65534, 65533)-own]
+
+the_mode_is_not_kept | whole_file/src/system.rt
+is_owned && file.set_permissions(permissions).is_ok()
+is_owned && permissions.mode() < u32::MAX
+rows TestOwners::test_a_file_that_is_replaced[build --pips 8-0o640]
+
+files_are_compared_without_their_device | whole_file/src/draft.rt
+named.number == file.number
+named.number.1 == file.number.1
+rows TestSteps::test_a_file_of_the_same_number[build --pips 8]
+
+a_folder_that_can_only_be_read_is_told | whole_file/src/system.rt
+                | ErrorKind::ReadOnlyFilesystem\n
+\n
+rows TestStraight::test_a_folder_that_can_only_be_read[build --pips 8]
+
+a_path_that_is_too_long_for_another_name_is_told | whole_file/src/system.rt
+\n                | ErrorKind::InvalidFilename => Ok(Made::Refused),
+=> Ok(Made::Refused),
+rows TestStraight::test_a_path_that_is_too_long_for_another_name[build --pips 8]
+
+a_file_of_which_nothing_is_told_is_not_synced | whole_file/src/system.rt
+Ok(told) if !told.is_file() => Ok(()),
+Ok(told) if !told.is_file() => Ok(()), Err(_) => Ok(()),
+rows TestSteps::test_a_file_of_which_nothing_is_told[build --pips 8-new]
+
+the_input_is_read_behind_its_end | epc_query/src/reads.rt
+let result = self.reader.read(buf);
+let mut result = self.reader.read(buf); if matches!(result, Ok(0)) { result = self.reader.read(buf); }
+rows TestTerminal::test_the_end[query eight-none]
+
+a_word_that_is_no_text_wants_memory | bearoff_cli/src/main.rt
+error.kind() == io::ErrorKind::InvalidData => return Err(Fault::Open),
+error.kind() == io::ErrorKind::InvalidData => return Err(Fault::Memory),
+rows TestCommands::test_a_word_that_is_no_text[check X]
+
+two_closed_streams_have_a_stand_in | bearoff_cli/src/main.rt
+for place in &mut standing {
+for place in &mut standing[..2] {
+rows TestClosedStreams::test_what_stands_in[012]
+
+about_leaves_out_what_the_system_says | bearoff_cli/src/act.rt
+let _ = write!(text, "{error}");
+let _ = error;
+rows TestAbout::test_faults
+
+a_help_that_is_asked_for_is_told_as_wrong_words | bearoff_cli/src/act.rt
+Err(error) => refused(write_help(&error, output)),
+Err(error) => Err(ProgramFault::Words(error)),
+rows TestCommands::test_words_that_tell_a_text
+
+the_stack_has_room_for_a_64th | bearoff_cli/src/files.rt
+const STACK: usize = 896 << 10;
+const STACK: usize = 14 << 10;
+rows test_memory_about_the_least[check of 20 pips]
+
+lines_of_a_file_have_a_prompt | bearoff_cli/src/main.rt
+let is_typed = rt.stdin().is_terminal() && terminal.is_terminal();
+let is_typed = terminal.is_terminal();
+rows TestTerminal::test_lines_of_a_file
+
+a_file_at_a_terminal_is_read_behind_its_end | bearoff_cli/src/files.rt
+if read.is_empty() {
+if read.is_empty() { let _ = read_block(file, &mut block);
+rows TestTerminal::test_a_file_that_is_typed
+
+the_help_has_no_examples | command_line/src/words.rt
+.after_help(EXAMPLES)
+.after_help(ABOUT)
+rows TestCommands::test_words_that_tell_a_text
+"""
+
+
+def other(row):
+    """The same of another body."""
+    head, *texts, words = row.split("\n")
+    name, file = head.split(" | ")
+    return name, f"crates/{file}", *(text.replace("\\n", "\n") for text in texts), words
+
+
 PLANTED = [
-    (
-        "build_always_wants_memory",
-        BUILDING,
-        BUILD_START,
-        "    if bound < 59 { return Err(BuildFault::Memory); }\n" + BUILD_START,
-        "failing_calls build",
-    ),
-    (
-        "build_wants_memory_over_15_pips",
-        READY,
-        "        Ok(ReadyBuild {",
-        "        if bound > 15 { return Err(BuildFault::Memory); }\n        Ok(ReadyBuild {",
-        BUILDS,
-    ),
-    (
-        "build_always_blames_the_writer",
-        BUILDING,
-        BUILD_START,
-        "    if bound < 59 { return Err(BuildFault::Write); }\n" + BUILD_START,
-        "failing_calls build",
-    ),
-    (
-        "build_blames_the_writer_over_15_pips",
-        READY,
-        "        let ReadyBuild {",
-        "        if self.header.bound > 15 { return Err(BuildFault::Write); }\n"
-        "        let ReadyBuild {",
-        BUILDS,
-    ),
-    (
-        "build_flushes",
-        BUILDING,
-        "    write_header(&header, writer)?;",
-        "    write_header(&header, writer)?;\n    " + FLUSH.format("BuildFault::Write"),
-        "failing_calls flushes",
-    ),
-    (
-        "build_compact_always_wants_memory",
-        BUILDING,
-        "    let Some(header) = Header::new(COMPACT_VERSION, bound) else {",
-        "    if bound < 59 { return Err(BuildFault::Memory); }\n"
-        "    let Some(header) = Header::new(COMPACT_VERSION, bound) else {",
-        "file_tests",
-    ),
-    (
-        "upgrade_always_blames_the_writer",
-        UPGRADING,
-        UPGRADE_START,
-        "    if old.bound < 59 { return Err(UpgradeFault::Write); }\n" + UPGRADE_START,
-        "file_tests",
-    ),
-    (
-        "upgrade_blames_the_table_over_6_pips",
-        UPGRADING,
-        UPGRADE_START,
-        "    if old.bound > 6 { return Err(UpgradeFault::Read); }\n" + UPGRADE_START,
-        "file_tests",
-    ),
-    (
-        "push_always_wants_memory",
-        MEANS,
-        PUSH,
-        "        if mean.numerator() < 1 << 127 { return Err(BuildFault::Memory); }\n" + PUSH,
-        "failing_calls push",
-    ),
-    (
-        "push_wants_memory_from_2000_means_on",
-        MEANS,
-        PUSH,
-        "        if self.means.len() >= 2000 { return Err(BuildFault::Memory); }\n" + PUSH,
-        "failing_calls push",
-    ),
-    (
-        "write_record_refuses_means_over_13_rolls",
-        WRITING,
-        "    law_record(mean, plays, spread);",
-        "    law_record(mean, plays, spread);\n"
-        "    if mean.numerator() > 13 * fixed_fraction::WHOLE { return Err(WriteFault); }",
-        "failing_calls flushes",
-    ),
-    (
-        "write_record_flushes",
-        WRITING,
-        "    law_record(mean, plays, spread);",
-        "    law_record(mean, plays, spread);\n    " + FLUSH.format("WriteFault"),
-        "failing_calls flushes",
-    ),
-    (
-        "write_header_flushes",
-        WRITING,
-        "    write_bytes(&header_bytes(header), writer)",
-        "    " + FLUSH.format("WriteFault") + "\n    write_bytes(&header_bytes(header), writer)",
-        "failing_calls flushes",
-    ),
-    (
-        "paged_always_wants_memory",
-        PAGED,
-        "        match LruCache::new(alloc, count) {",
-        "        if capacity > 0 { return Err((source, PagedFault::Memory)); }\n"
-        "        match LruCache::new(alloc, count) {",
-        "failing_calls pages",
-    ),
-    (
-        "paged_reads_at_every_load",
-        PAGED,
-        "        let _ = self.records.put(rank, read);",
-        "        if rank > 60_000 { let _ = self.records.put(rank, read); }",
-        "file_tests",
-    ),
-    (
-        "paged_always_blames_the_source",
-        PAGED,
-        "        let header = read_header(&mut self.source)?;",
-        "        let header = read_header(&mut self.source)?;\n"
-        "        if header.bound < 45 { return Err(TableFault::Read); }",
-        "failing_calls pages",
-    ),
-    (
-        "moves_always_wants_memory",
-        MOVES,
-        MOVES_START,
-        "    if found.len() > 0 { return Err(QueryFault::Memory); }\n" + MOVES_START,
-        "failing_calls moves",
-    ),
-    (
-        "run_always_blames_the_reader",
-        RUNNING,
-        RUN_START,
-        "    if turns > 0 { return Err(RunFault::Read); }\n" + RUN_START,
-        "failing_calls run",
-    ),
-    (
-        "run_always_blames_the_writer",
-        RUNNING,
-        RUN_START,
-        "    if turns > 0 { return Err(RunFault::Write); }\n" + RUN_START,
-        "failing_calls run",
-    ),
-    (
-        "run_always_runs_out_of_turns",
-        RUNNING,
-        RUN_START,
-        "    if turns > 0 { return Err(RunFault::Turns); }\n" + RUN_START,
-        "failing_calls run",
-    ),
-    (
-        "run_always_wants_memory",
-        RUNNING,
-        RUN_START,
-        "    if turns > 0 { return Err(RunFault::Memory); }\n" + RUN_START,
-        "failing_calls run",
-    ),
-    (
-        "run_always_blames_the_table",
-        RUNNING,
-        RUN_START,
-        "    if turns > 0 { return Err(RunFault::Table); }\n" + RUN_START,
-        "failing_calls run",
-    ),
-    (
-        "the_program_always_wants_memory",
-        ACT,
-        TELL,
-        "    if words.len() < 9 {\n"
-        "        return Told { status: 1, line: write_fault(&Fault::Memory, errors) };\n    }\n"
-        + TELL,
-        BUILDS,
-    ),
-    (
-        "the_program_tells_no_line",
-        ACT,
-        TELL,
-        "    let status = match perform(disk, alloc, words, input, output) {\n"
-        "        Ok(()) => 0,\n        Err(ProgramFault::Words(_)) => 2,\n"
-        "        Err(ProgramFault::Failed(fault)) => fault.status(),\n    };\n"
-        "    Told { status, line: if status == 0 { Ok(()) } else { Err(WriteFault) } }",
-        "bearoff_cli check NOTHING",
-    ),
-    (
-        "the_first_block_of_a_file_is_dropped",
-        FILES,
-        "        Ok(mut file) => read_bytes(alloc, &mut file),",
-        "        Ok(mut file) => {\n            let mut block = [0; BLOCK];\n"
-        "            let _ = read_block(&mut file, &mut block)?;\n"
-        "            read_bytes(alloc, &mut file)\n        }",
-        "bearoff_cli check BUILT",
-    ),
-    (
-        "the_program_gives_up_over_30000_bytes",
-        FILES,
-        "        if read.is_empty() {",
-        "        if read.is_empty() {\n"
-        "            if bytes.len() > 30000 { return Err(Fault::File); }",
-        "bearoff_cli check BUILT",
-    ),
-    (
-        "the_words_want_memory_where_there_are_three",
-        ACT,
-        "            let mut words = lines.as_str().as_bytes();",
-        "            if lines.len() > 40 { return refused(Err(Fault::Memory)); }\n"
-        "            let mut words = lines.as_str().as_bytes();",
-        "rows TestAsk",
-    ),
-    (
-        "lines_that_are_words_want_memory_over_100000_bytes",
-        WORDS,
-        "        text.push_str(line)?;",
-        "        if text.len() > 100_000 { return Err(AllocError); }\n"
-        "        text.push_str(line)?;",
-        "rows TestAsk::test_words",
-    ),
-    (
-        "a_file_over_16_megabytes_tells_another_length",
-        FILE_SOURCE,
-        LENGTH,
-        OTHER_LENGTH,
-        "rows TestLongFiles",
-    ),
-    (
-        "100_pages_are_one",
-        ACT,
-        "FileSource::new(file), affordable(alloc, records)",
-        "FileSource::new(file), if records == 100 { 1 } else { affordable(alloc, records) }",
-        "rows TestReads",
-    ),
-    (
-        "a_mean_that_cannot_be_is_none",
-        CHECKED,
-        "        let Some(mean) = mean_in(&self.table.lend(rank, &room)) else {",
-        "        let Some(mean) = mean_in(&self.table.lend(rank, &room)) else {\n"
-        "            if let Some(none) = Scaled::new(0) { return Ok(none); }",
-        "rows TestChanges",
-    ),
-    (
-        "shares_that_cannot_be_are_those_of_no_roll",
-        CHECKED,
-        "        let Some(spread) = spread_in(&self.table.lend(rank, &room)) else {",
-        "        let Some(spread) = spread_in(&self.table.lend(rank, &room)) else {\n"
-        "            if rank < 60_000 { return Ok(Spread::finished()); }",
-        "rows TestChanges",
-    ),
-    (
-        "a_play_that_cannot_be_bears_all_off",
-        CHECKED,
-        "        if recorded >= self.header.count {",
-        "        let recorded = if recorded == 65_535 { 0 } else { recorded };\n"
-        "        if recorded >= self.header.count {",
-        "rows TestChanges",
-    ),
-    (
-        "the_trial_never_fails",
-        COUNTDOWN,
-        "        let is_due = self.calls_left == 1;",
-        "        let is_due = self.calls_left == 0 && self.calls_left > 0;",
-        "file_tests",
-    ),
-    (
-        "the_trial_fails_at_the_call_after",
-        COUNTDOWN,
-        "            calls_left: call,",
-        "            calls_left: if call == 0 { 0 } else { call.saturating_add(1) },",
-        "file_tests",
-    ),
-    (
-        "run_blames_the_reader_where_the_reads_run_out",
-        RUNNING,
-        "    Err(RunFault::Turns)\n}",
-        "    Err(RunFault::Read)\n}",
-        "failing_calls turns",
-    ),
-    (
-        "run_says_that_the_reads_ran_out_where_one_failed",
-        RUNNING,
-        "            return Err(RunFault::Read);",
-        "            return Err(RunFault::Turns);",
-        "failing_calls reads",
-    ),
-    (
-        "run_blames_the_reader_after_50000_reads",
-        RUNNING,
-        TAKE,
-        "        if _turn > 50_000 { return Err(RunFault::Read); }\n" + TAKE,
-        "failing_calls turns",
-    ),
-    (
-        "run_blames_the_writer_after_50000_lines",
-        RUNNING,
-        TAKE,
-        "        if count > 50_000 { return Err(RunFault::Write); }\n" + TAKE,
-        "failing_calls turns",
-    ),
-    (
-        "run_flushes_few_lines_alone",
-        LINES,
-        REST_KEPT + "    flush(writer)?;",
-        REST_KEPT + "    if count < 200 { flush(writer)?; }",
-        "file_tests",
-    ),
-    (
-        "upgrade_flushes",
-        UPGRADING,
-        COMPACT,
-        COMPACT + "\n    " + FLUSH.format("UpgradeFault::Write"),
-        "failing_calls flushes",
-    ),
-    (
-        "the_upgrade_blames_the_writer_for_a_change",
-        UPGRADING,
-        NUMBERS + "Read);",
-        NUMBERS + "Write);",
-        "file_tests",
-    ),
-    (
-        "paged_keeps_one_record_more",
-        PAGED,
-        "        match LruCache::new(alloc, count) {",
-        "        match LruCache::new(alloc, count.saturating_add(1)) {",
-        "file_tests",
-    ),
-    (
-        "paged_lets_go_of_the_record_read_first",
-        PAGED,
-        "self.records.get(&rank)",
-        "self.records.peek(&rank)",
-        "file_tests",
-    ),
-    (
-        "a_loss_under_the_least_is_none",
-        LOSSES,
-        "        None => Err(QueryFault::Read),",
-        "        None => Ok(Scaled::ZERO),",
-        "file_tests",
-    ),
-    (
-        "the_whole_board_always_wants_memory",
-        FILES,
-        "    Ok(vec![in alloc; 0; size]?)",
-        "    if size > 0 { return Err(Fault::Memory); }\n    Ok(vec![in alloc; 0; size]?)",
-        "rows TestBoards::test_build",
-    ),
-    (
-        "a_board_file_over_14_megabytes_is_not_written",
-        FILES,
-        "write_flushed(whole_board(pips, &mut room)?, output)",
-        "{ let file = whole_board(pips, &mut room)?;\n"
-        "    if file.len() > 14_000_000 { return Err(Fault::Write); }\n"
-        "    write_flushed(file, output) }",
-        "rows TestBoards::test_build",
-    ),
-    (
-        "lines_over_a_board_blame_the_file",
-        ANSWERS,
-        "        let Some(()) = answer(self, line, text) else {",
-        "        if line.len() > 40 && ROOM > 12_288 { return Err(RunFault::Table); }\n"
-        "        let Some(()) = answer(self, line, text) else {",
-        "rows TestBoards::test_query[long]",
-    ),
-    (
-        "lines_over_a_database_blame_the_file",
-        ANSWERS,
-        "        let Some(()) = answer(self, line, text) else {",
-        "        if line.len() > 40 { return Err(RunFault::Table); }\n"
-        "        let Some(()) = answer(self, line, text) else {",
-        "rows TestLongLines",
-    ),
-    (
-        "the_audit_of_a_board_gives_up_at_90_pips",
-        KINDS,
-        "        let level = board_level(&board, pips).unwrap();",
-        "        if pips == 90 { return Err(Fault::File); }\n"
-        "        let level = board_level(&board, pips).unwrap();",
-        "rows TestBoards::test_audit",
-    ),
-    (
-        "replies_before_a_failed_read_are_not_handed_on",
-        KINDS,
-        "        RunFault::Write => RunFault::Write,",
-        "        RunFault::Write | RunFault::Table => cause,",
-        "rows TestChanges",
-    ),
-    (
-        "moves_want_memory_over_100_results",
-        MOVES,
-        MOVES_START,
-        "    if found.len() > 100 { return Err(QueryFault::Memory); }\n" + MOVES_START,
-        "rows TestLongestList",
-    ),
-    (
-        "a_new_file_is_made_in_the_working_folder",
-        DRAFT,
-        "    let folder = folder_of(alloc, place.as_str())?;",
-        '    let folder = folder_of(alloc, if place.is_empty() { "" } else { "place" })?;',
-        "rows TestLinks::test_another_device[build --pips 8]",
-    ),
-    (
-        "a_new_file_is_for_its_owner_alone",
-        DRAFT,
-        "create_beside(disk, alloc, place, 0o666)",
-        "create_beside(disk, alloc, place, 0o600)",
-        "rows TestOwners::test_a_new_file[build --pips 8-0o22]",
-    ),
-    (
-        "the_group_is_not_kept",
-        SYSTEM,
-        "fchown(self, Some(owner), Some(group))",
-        "fchown(self, Some(owner), if group == u32::MAX { Some(group) } else { None })",
-        "rows TestOwners::test_a_file_of_another_user[build --pips 8-(65534, 65533)-own]",
-    ),
-    (
-        "the_mode_is_not_kept",
-        SYSTEM,
-        "is_owned && file.set_permissions(permissions).is_ok()",
-        "is_owned && permissions.mode() < u32::MAX",
-        "rows TestOwners::test_a_file_that_is_replaced[build --pips 8-0o640]",
-    ),
-    (
-        "files_are_compared_without_their_device",
-        DRAFT,
-        "named.number == file.number",
-        "named.number.1 == file.number.1",
-        "rows TestSteps::test_a_file_of_the_same_number[build --pips 8]",
-    ),
-    (
-        "a_folder_that_can_only_be_read_is_told",
-        SYSTEM,
-        "                | ErrorKind::ReadOnlyFilesystem\n",
-        "",
-        "rows TestStraight::test_a_folder_that_can_only_be_read[build --pips 8]",
-    ),
-    (
-        "a_path_that_is_too_long_for_another_name_is_told",
-        SYSTEM,
-        "\n                | ErrorKind::InvalidFilename => Ok(Made::Refused),",
-        " => Ok(Made::Refused),",
-        "rows TestStraight::test_a_path_that_is_too_long_for_another_name[build --pips 8]",
-    ),
-    (
-        "a_file_of_which_nothing_is_told_is_not_synced",
-        SYSTEM,
-        "        Ok(told) if !told.is_file() => Ok(()),\n",
-        "        Ok(told) if !told.is_file() => Ok(()),\n        Err(_) => Ok(()),\n",
-        "rows TestSteps::test_a_file_of_which_nothing_is_told[build --pips 8-new]",
-    ),
-    (
-        "the_input_is_read_behind_its_end",
-        READS,
-        "        let result = self.reader.read(buf);\n",
-        "        let mut result = self.reader.read(buf);\n"
-        "        if matches!(result, Ok(0)) { result = self.reader.read(buf); }\n",
-        "rows TestTerminal::test_the_end[query eight-none]",
-    ),
-    (
-        "a_word_that_is_no_text_wants_memory",
-        MAIN,
-        "error.kind() == io::ErrorKind::InvalidData => return Err(Fault::Open),",
-        "error.kind() == io::ErrorKind::InvalidData => return Err(Fault::Memory),",
-        "rows TestCommands::test_a_word_that_is_no_text[check X]",
-    ),
-    (
-        "two_closed_streams_have_a_stand_in",
-        MAIN,
-        "    for place in &mut standing {",
-        "    for place in &mut standing[..2] {",
-        "rows TestClosedStreams::test_what_stands_in[012]",
-    ),
-    (
-        "about_leaves_out_what_the_system_says",
-        ACT,
-        '        let _ = write!(text, "{error}");\n',
-        "        let _ = error;\n",
-        "rows TestAbout::test_faults",
-    ),
-    (
-        "a_help_that_is_asked_for_is_told_as_wrong_words",
-        ACT,
-        "        Err(error) => refused(write_help(&error, output)),",
-        "        Err(error) => Err(ProgramFault::Words(error)),",
-        "rows TestCommands::test_words_that_tell_a_text",
-    ),
-    (
-        "the_stack_has_room_for_a_64th",
-        FILES,
-        "const STACK: usize = 896 << 10;",
-        "const STACK: usize = 14 << 10;",
-        "rows test_memory_about_the_least[check of 20 pips]",
-    ),
+    *map(giving_up, GIVING_UP.strip().split("\n")),
+    *map(other, OTHERS.strip().split("\n\n")),
 ]
 
 # the bodies of the gate: those of each kind of test that cost least

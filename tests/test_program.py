@@ -11,7 +11,6 @@ import resource
 import shutil
 import subprocess
 import sys
-import termios
 from collections import Counter
 from pathlib import Path
 
@@ -23,6 +22,7 @@ from running import (
     ROOT,
     SLOWER,
     as_bytes,
+    at_terminal,
     code_blocks,
     expect,
     expect_same,
@@ -335,23 +335,34 @@ class TestCommands:
         word = os.fsdecode(b"made-\xff")
         expect(ask([word if it == "X" else it for it in words.split()]), 1, "", "bearoff: open")
 
+    # .. and what stands in it
     @pytest.mark.parametrize(
-        "words",
-        [
-            "--help",
-            "--version",
-            "help build",
-            "check --help",
-            "query -h",
-            "ask --help",
-            "audit --help",
-            "upgrade --help",
-        ],
+        "words, told",
+        rows(
+            """
+        --version|bearoff 1.0.0
+        --help|Usage: bearoff [COMMAND]
+        --help|Examples:
+        --help|Exit status: 0 done; 1 a file, the input, the output or memory failed; 2 the words are
+        help build|Usage: bearoff build --pips <N> <FILE>
+        help build|The greatest pip count of the database, 0 to 58
+        help build|Exit status: 0 the file was written; 1 it, the output or memory failed (FILE is the
+        check --help|Usage: bearoff check [OPTIONS] <FILE>
+        query -h|Usage: bearoff query [OPTIONS] <FILE>
+        ask --help|Usage: bearoff ask <FILE> <LINE>...
+        ask --help|A line as `query` reads it, in quotes: 'mean 0,0,0,0,0,1'
+        help about|Usage: bearoff about <FILE>
+        help about|Exit status: 0 FILE was accepted; 1 it, the output or memory failed; 2 the words are wrong;
+        audit --help|Usage: bearoff audit [OPTIONS] <FILE>
+        audit --help|Exit status: 0 the file was accepted; 1 it, the input, the output or memory failed;
+        upgrade --help|Usage: bearoff upgrade <OLD> <NEW>
+    """
+        ),
     )
-    def test_words_that_tell_a_text(self, files, ask, words):
+    def test_words_that_tell_a_text(self, files, ask, words, told):
         done = ask(words)
-        is_so = done.status == 0 and done.output != b"" and done.errors == b""
-        expect_that(is_so, done, "status 0, and a text on standard output alone")
+        is_so = done.status == 0 and told.encode() in done.output and done.errors == b""
+        expect_that(is_so, done, f"status 0, and '{told}' on standard output alone")
 
     @pytest.mark.parametrize(
         "words",
@@ -688,6 +699,14 @@ class TestLongLines:
         lines = b"rank 1,0,0,0,0,0".ljust(length) + b"\r\nrank 1,0,0,0,0,0\n"
         expect(ask("", lines), 0, "error bad-line\nrank 1")
 
+    @pytest.mark.parametrize(
+        "words, bound", [("query", 58), ("query --cache 9", 8), ("query --board", 90)]
+    )
+    def test_each_length(self, ask, built, whole, words, bound):
+        lines = b"".join(b"x" * length + b"\n" for length in range(140))
+        file = whole if bound == 90 else built(bound)
+        expect(ask([*words.split(), file], lines), 0, "error bad-line\n" * 140)
+
 
 class TestOneAtATime:
     @pytest.mark.parametrize("words", ["", "query eight", "query --cache 1 eight"])
@@ -708,59 +727,40 @@ class TestTerminal:
     """At a terminal one control-D on a line of its own ends the input: nothing is read after
     it."""
 
+    @pytest.fixture
+    def terminal(self, files, program, whole):
+        os.symlink(whole, "whole")
+        return lambda words, *typed, **how: at_terminal([program, *words.split()], *typed, **how)
+
     @pytest.mark.parametrize("typed", [THREE, "", THREE[:-1] + "\4"], ids=["lines", "none", "cut"])
     @pytest.mark.parametrize(
         "words", ["", "query eight", "query --cache 9 eight", "query --board whole"]
     )
-    def test_the_end(self, files, program, whole, words, typed):
-        os.symlink(whole, "whole")
-        typist, terminal = os.openpty()
-        child = subprocess.Popen(
-            [program, *words.split()],
-            stdin=terminal,
-            stdout=subprocess.PIPE,
-            stderr=subprocess.PIPE,
-        )
-        try:
-            os.write(typist, f"{typed}\4".encode())
-            output, errors = child.communicate(timeout=20 * SLOWER)
-        finally:
-            child.kill()
-            os.close(typist)
-            os.close(terminal)
+    def test_the_end(self, terminal, words, typed):
         told = as_bytes(REPLIES if typed else "")
-        assert (child.returncode, output, errors) == (0, told, b"")
+        came = terminal(words, f"{typed}\4".encode(), stdout=subprocess.PIPE)
+        assert came == (0, b"", told, b"")
 
-    # where standard output is the terminal, too, a prompt stands before each line
+    # where standard output is the terminal, too, a prompt stands before each line that is typed
     @pytest.mark.parametrize(
         "words, end", [("", b"\4"), ("query eight", b"quit\n"), ("query --board whole", b"\4")]
     )
-    def test_the_prompt(self, files, program, whole, words, end):
-        os.symlink(whole, "whole")
-        typist, terminal = os.openpty()
-        settings = termios.tcgetattr(terminal)
-        settings[1] &= ~termios.OPOST
-        settings[3] &= ~termios.ECHO
-        termios.tcsetattr(terminal, termios.TCSANOW, settings)
-        child = subprocess.Popen(
-            [program, *words.split()], stdin=terminal, stdout=terminal, stderr=subprocess.PIPE
-        )
-        os.close(terminal)
-        shown = b""
+    def test_the_prompt(self, terminal, words, end):
         mean = "mean 0,0,1,0,0,0"
         replies = {mean: "mean 1/1 epc 49/6 8.167\n", "": TYPED_HELP, "help": TYPED_HELP}
         lines = [mean, *5 * [""], "help", "help me", "quit it", "rank", 100 * "x"]
-        try:
-            os.write(typist, "".join(f"{line}\n" for line in lines).encode() + end)
-            with contextlib.suppress(OSError):
-                while piece := os.read(typist, 4096):
-                    shown += piece
-            status = child.wait(20 * SLOWER)
-        finally:
-            child.kill()
-            os.close(typist)
         told = "".join("> " + replies.get(line, "error bad-line\n") for line in lines)
-        assert (status, shown, child.stderr.read()) == (0, f"{TYPED_HELP}{told}> ".encode(), b"")
+        came = terminal(words, "".join(f"{line}\n" for line in lines).encode() + end)
+        assert came == (0, f"{TYPED_HELP}{told}> ".encode(), None, b"")
+
+    def test_a_file_that_is_typed(self, terminal):
+        came = terminal("check /dev/stdin", b"\4")
+        assert came == (3, b"", None, b"bearoff: refused header too-short\n")
+
+    def test_lines_of_a_file(self, terminal):
+        Path("lines").write_text(THREE, encoding="ascii")
+        with open("lines", "rb") as lines:
+            assert terminal("", b"", stdin=lines) == (0, as_bytes(REPLIES), None, b"")
 
 
 class TestManyTurns:
@@ -939,7 +939,13 @@ COUNTED = {
 }
 
 
-def expect_bound(ask, bound):
+@pytest.fixture(scope="session")
+def levels(program, built):
+    """The lines of each pip count."""
+    return succeed(program, "audit", built(58)).splitlines(keepends=True)
+
+
+def expect_bound(ask, levels, bound):
     """One bound: version 1 to 44 pips, and its upgrade; and from there on version 2. The files of
     version 2 are those that were counted outside."""
     count, (size, sha) = COUNTS[bound], COUNTED[bound]
@@ -947,6 +953,8 @@ def expect_bound(ask, bound):
         ask(f"build --pips {bound} file", timeout=300), 0, f"built pips {bound} positions {count}"
     )
     expect(ask("check file"), 0, f"ok pips {bound} positions {count}")
+    expect(ask("audit file"), 0, b"".join(levels[: bound + 1]))
+    expect(ask("query --cache 65535 file", "rank 0,0,0,0,0,0"), 0, "rank 0")
     newest = "file"
     if bound <= 44:
         assert os.path.getsize("file") == 32 + 426 * count
@@ -961,14 +969,14 @@ def expect_bound(ask, bound):
 
 class TestLowBounds:
     @pytest.mark.parametrize("bound", range(13))
-    def test_bound(self, room, ask, bound):
-        expect_bound(ask, bound)
+    def test_bound(self, room, ask, levels, bound):
+        expect_bound(ask, levels, bound)
 
 
 class TestBounds:
     @pytest.mark.parametrize("bound", range(13, 59))
-    def test_bound(self, room, ask, bound):
-        expect_bound(ask, bound)
+    def test_bound(self, room, ask, levels, bound):
+        expect_bound(ask, levels, bound)
 
     def test_there_are_59(self):
         assert sorted(COUNTED) == list(range(59))

@@ -17,20 +17,20 @@ from pathlib import Path
 
 import pytest
 
-from running import HERE, KNOWN, need, run
+from running import HERE, KNOWN, at_terminal, need, run
 
 LINES = "rank 1,0,0,0,0,0\nmoves 0,0,0,2,0,0 21\nmean 0,0,1,0,0,0\n\nplay 0,0,0,2,0,0 21"
 
-# the lines that a refused call of a kind may end with; a growth has the line of the call that it
-# was inside of
+# the lines that a refused call of a kind may end with
 FAULTS = {
-    "growth": ("memory", "open", "file", "write"),
+    "growth": ("memory",),
     "open": ("open", "write"),
     "closed-open": ("open",),
     "link": ("open",),
     "tell": ("open", "write"),
     "sync": ("write",),
     "unable-sync": ("write",),
+    "unsupported-sync": ("write",),
     "rename": ("write",),
     "seek": ("file",),
     "input": ("read",),
@@ -49,7 +49,7 @@ AFTER_IT = ["open", "output", "idle-output", "interrupted-output", "sync"]
 
 # the kinds that may also leave no trace: a growth of the cache's, a folder that may not be written
 # or read, a file that can't have the old one's mode, and what is asked for a name alone
-HARMLESS = ["closed-open", "link", "tell", "mode", "unable-sync"]
+HARMLESS = ["closed-open", "link", "tell", "mode", "unable-sync", "unsupported-sync"]
 
 # the first opening asks whether a standard stream is closed, and is wanted for nothing else
 FIRST = "open:1"
@@ -82,6 +82,7 @@ STORED = [
     "interrupted-mode",
     "sync",
     "unable-sync",
+    "unsupported-sync",
     "interrupted-sync",
     "rename",
 ]
@@ -100,6 +101,7 @@ COMMANDS = {
     "audit": ("audit eight", ["growth", *OPENED, *LOADED, *TOLD]),
     "upgrade": ("upgrade eight made", ["growth", *OPENED, *LOADED, *STORED, *TOLD]),
     "help": ("--help", ["growth", "output", "interrupted-output"]),
+    "wrong words": ("check", ["growth"]),
 }
 
 # the trials of crates/failing_calls, and how a refused growth of each may end
@@ -197,9 +199,11 @@ def test_program(program, refusing, note, name, kind):
     is_repeated = kind in REPEATED and REPEATED[kind] in [None] + words
     # a call that is interrupted each time anew never ends, so one is
     ends = [""] if kind.startswith("interrupted-") else ["", "+"]
+    # the database in memory is written there
+    told = ("memory", "write") if (name, kind) == ("no words", "growth") else FAULTS.get(kind, ())
+    lines, outputs = [f"bearoff: {line}\n".encode() for line in told], {}
     for which in [f"{kind}:{call}{end}" for call in range(1, calls + 1) for end in ends]:
         got, _ = refusing(command, which)
-        lines = [f"bearoff: {line}\n".encode() for line in FAULTS.get(kind, ())]
         is_prefix = ample.output.startswith(got.output)
         is_lines = got.output == b"" or got.output.endswith(b"\n")
         is_same = got[3:] == ample[3:]
@@ -216,9 +220,13 @@ def test_program(program, refusing, note, name, kind):
             and is_prefix
             and is_lines
             and is_whole(kind, refusing.old, whole)
+            # behind a refused write nothing is written, also where it would be taken
+            and outputs.setdefault(which.rstrip("+"), got.output) == got.output
         ):
             wrong.append(came(name, which, got))
     assert not wrong, "\n".join(wrong)
+    is_short_of_memory = (name, kind) == ("query by pages", "growth")
+    assert not is_short_of_memory or b"rank 1\n" in outputs.values(), "a reply was not handed on"
     told = f", {harmless} of them without a trace" if harmless else ""
     note(f"{name}: {calls} calls of the kind {kind}{told}")
 
@@ -228,6 +236,13 @@ def test_standard_error_fails_too(program, refusing):
     got, calls = refusing([program, "check", "nothing"], "errors:1+")
     assert calls > 0
     assert (got.status, got.output, got.errors) == (1, b"", b"")
+
+
+def test_a_terminal_that_fails(program, library):
+    """It is no end of the input."""
+    calls = {"LD_PRELOAD": str(library), "REFUSED_CALL": "input:1"}
+    status, _, _, errors = at_terminal([program], b"", env={**KNOWN, **calls})
+    assert (status, errors) == (1, b"bearoff: read\n")
 
 
 # how the root folder can't be opened: no leave, no number for an open file in the process or in
