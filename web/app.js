@@ -3,7 +3,7 @@
 import { abilities } from "../js/abilities.js";
 import { boardActions } from "./actions/board.js";
 import { draftActions } from "./actions/draft.js";
-import { focusing } from "./actions/focus.js";
+import { copied, focusing } from "./actions/focus.js";
 import { gamesActions } from "./actions/games.js";
 import { shelfActions } from "./actions/shelf.js";
 import { studentActions } from "./actions/student.js";
@@ -119,14 +119,8 @@ export async function copyLink(at, window, href) {
 
 // Copies the board's position as text, or says that it can't be, and where the text stands.
 export async function copyPosition(at, window, points) {
-    const text = asText(points);
-    try {
-        await window.navigator.clipboard.writeText(text);
-        at("copied").textContent = "The position is copied as text.";
-    } catch {
-        at("copied").textContent =
-            `The browser lets this page copy nothing. The position is ${points.join()}.`;
-    }
+    at("copied").textContent = await copied(window, asText(points), "The position is copied as text.",
+        `The browser lets this page copy nothing. The position is ${points.join()}.`);
 }
 
 // Starts the page: `parts` are the worker's script and the two modules in base 64.

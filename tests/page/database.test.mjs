@@ -244,7 +244,8 @@ test("90 pips that can't be had", async () => {
         used.sees("tried again where it is needed", { ...waits, "hidden bar": false });
         equal("it is built", built(used), "start 90");
         await fail();
-        used.sees("and said", { trouble: "The database of 90 pips couldn\u2019t be built: no memory. That of 44 pips goes on.",
+        used.sees("and said", {
+            trouble: "The database of 90 pips couldn\u2019t be built: no memory. That of 44 pips goes on.",
             "hidden trouble": false, "hidden wider": false, "hidden bar": true, figures: [],
             numbers: "55 pips. The position has more pips than the database.It goes to 44 pips." });
         equal("not once more by itself", [built(used), used.worker.isEnded], ["none", false]);

@@ -1,5 +1,5 @@
-// Home, without a browser: what each screen has, today's ten and what stays of them, lessons with their drills and marks,
-// a drill of one's choice, and what is said of a link that can't be taken.
+// Home, without a browser: what each screen has, today's ten and what stays of them, lessons with their drills and
+// marks, a drill of one's choice, and what is said of a link that can't be taken.
 import { readLink } from "../../web/link.js";
 import { drillOfLesson, fittingLesson, lessonOfDrill, ROOMS } from "../../web/rooms.js";
 import { isFar, missedOf } from "../../web/state/reads.js";
@@ -98,7 +98,8 @@ test("a student's days", async () => {
     let used = await Used.open();
     await used.run("the first day", [["the panel, and what stays where", "",
         { "hidden today": false, today: used.text("today"),
-        ".daily-told": `${BEGINNING} Ten questions, the first ones easy, some three minutes. What you miss comes back tomorrow.`,
+        ".daily-told": `${BEGINNING} Ten questions, the first ones easy, some three minutes. What you miss comes back `
+            + "tomorrow.",
         "#today .begin": "Begin ten new", "in today": "What you answer stays on this device; nothing of it is sent.",
         "count #today .days": 0 }]]);
     equal("nothing is kept", used.window.kept.size, 0);
@@ -209,13 +210,13 @@ test("a student's days", async () => {
 });
 
 test("what counts for the ten, and for a rating", async () => {
-    let used = await Used.open("#drill=all&seed=5&ask=play");
+    let used = await Used.open(`#drill=all&seed=${day}&ask=play`);
     about("other drills don't count for the ten");
     await play(used, () => false);
     equal("twenty that are right", kept(used).split("\n").at(-1), `day ${day} 20 0 0`);
     await used.run("", [["what is asked then", "end training", { "not in .daily-told": "are done",
         "class of today": "begin first" }]]);
-    used = await Used.open("#drill=all&seed=5&ask=effective&ten=");
+    used = await Used.open(`#drill=all&seed=${day}&ask=effective&ten=`);
     await used.do(Array(10).fill(["estimate=1", "tell", "next question"]).flat());
     equal("ten estimates", linesOf(used, "day"), [`day ${day} 10 10 0`]);
 

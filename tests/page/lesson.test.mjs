@@ -1,4 +1,4 @@
-// Lessons, without a browser: their steps, estimates and values, what is printed of one, and one that is made on the page.
+// Lessons, without a browser: their steps, estimates and values, one on paper, and one that is made on the page.
 import { readLink } from "../../web/link.js";
 import { measuredOf } from "../../web/state/reads.js";
 import { readLessons, writeLesson } from "../../web/trainer.js";
@@ -9,8 +9,8 @@ import { about, equal, linkOf, numbersOf, test, Used } from "./used.mjs";
 const fileOf = (name, text) => Object.assign(new Blob([text]), { name });
 
 test("lessons", async () => {
-    const used = await Used.open(linkOf("lesson: <b>One</b>\nstep: 0,0,0,1,0,1\nroll: 52\ntext: <i>first</i>\nask: Which?\n"
-        + "answer: That one.\nstep: 1,0,0,0,0,0\ntext: second"));
+    const used = await Used.open(linkOf("lesson: <b>One</b>\nstep: 0,0,0,1,0,1\nroll: 52\ntext: <i>first</i>\n"
+        + "ask: Which?\nanswer: That one.\nstep: 1,0,0,0,0,0\ntext: second"));
     await used.run("a lesson", [
         ["its first step, with its answer closed", "", { board: "0,0,0,1,0,1", "state roll": [5, 2],
             "in coach": "<i>first</i>",
@@ -49,8 +49,9 @@ test("lessons", async () => {
 
 test("a lesson that asks for estimates", async () => {
     about("a lesson's lines");
-    const text = "lesson: Counting\nstep: 3,2,3,0,3,2\nestimate: pips\nrule: additions\nask: How many?\nanswer: 43 pips.\n"
-        + "step: 7,0,0,0,0,0\nestimate: effective\nrule: own\nanswer: 29.\nstep: 1,0,0,0,0,0\ntext: The end.";
+    const text = "lesson: Counting\nstep: 3,2,3,0,3,2\nestimate: pips\nrule: additions\nask: How many?\n"
+        + "answer: 43 pips.\nstep: 7,0,0,0,0,0\nestimate: effective\nrule: own\nanswer: 29.\n"
+        + "step: 1,0,0,0,0,0\ntext: The end.";
     equal("there and back", writeLesson(readLessons(text).lessons[0]), text);
     const both = "a step has a roll or an estimate";
     for (const [line, why] of [["estimate: mean", "what is estimated is pips, effective, wastage"],
@@ -101,7 +102,7 @@ test("a lesson that asks for estimates", async () => {
             figures: numbersOf([1, 0, 0, 0, 0, 0]) }],
         ["back there, it asks anew", "previous step", { "there estimate": true, "value weight 1": "20" }],
         ["beside another position neither is there", [`go ${linkOf(text, { at: "1,1,0,0,0,0" })}`],
-            { "there estimate": false, "hidden worth": true, figures: numbersOf([1, 1, 0, 0, 0, 0]),
+            { "there estimate": false, "hidden worth": true, worth: "", figures: numbersOf([1, 1, 0, 0, 0, 0]),
                 "there back to it": true }],
         ["elsewhere nothing is asked", ["go #at=7,0,0,0,0,0"],
             { "there estimate": false, "hidden worth": true, figures: numbersOf([7, 0, 0, 0, 0, 0]) }],
@@ -114,8 +115,8 @@ test("a lesson that asks for estimates", async () => {
 test("values in a lesson", async () => {
     about("values in a lesson");
     const text = "lesson: Values\nstep: 0,0,0,1,0,1\nroll: 52\n"
-        + "text: {pips} pips, {mean} rolls, {EPC} and {wastage}, {other} {PIPS}.\nask: Is {best} best?\nanswer: {best}.\n"
-        + "step: 2,0,0,0,0,0\ntext: {EPC}\nanswer: {best} {pips}\nstep: 0,0,0,0,9,0\ntext: {pips}";
+        + "text: {pips} pips, {mean} rolls, {EPC} and {wastage}, {other} {PIPS}.\nask: Is {best} best?\n"
+        + "answer: {best}.\nstep: 2,0,0,0,0,0\ntext: {EPC}\nanswer: {best} {pips}\nstep: 0,0,0,0,9,0\ntext: {pips}";
     const used = new Used(linkOf(text));
     used.sees("nothing yet", { "in coach": "\u2026 pips, \u2026 rolls, \u2026 and \u2026, {other} {PIPS}." });
     await used.ready();

@@ -1,5 +1,4 @@
-// What is asked, without a browser: which questions are drawn, and how a play of one is made on the board, by clicks and
-// by keys.
+// What is asked, without a browser: which questions are drawn, and how a play is made on the board, by clicks and keys.
 import { readLink } from "../../web/link.js";
 import { drawQuestions, drillOf, kindsOf, mostOf, numbersFrom } from "../../web/questions.js";
 import { ROLLS } from "../../web/rolls.js";
@@ -42,7 +41,8 @@ test("plays on the board", async () => {
     equal("one stop of Tab", of("tabindex").map((at, place) => at === "0" && place).filter((at) => at !== false), [0]);
     for (const [does, name, wanted, more] of [
         ["off, point 3", "a place where nothing can go", CAN_MOVE, { "state picked": null, "length steps": 0 }],
-        ["point 6", "picked", "its checker is to move,-,a checker can go there,-,-,a checker can go there,a checker can go there",
+        ["point 6", "picked",
+            "its checker is to move,-,a checker can go there,-,-,a checker can go there,a checker can go there",
             { said: "Point 6: to point 1, point 4, off.", marks: "50", spots: "250,550,off",
                 "aria-pressed of point 6": "true", "aria-pressed of point 4": "false" }],
         ["point 6", "put back", CAN_MOVE, { "state picked": null, marks: "50,250" }],
@@ -287,8 +287,8 @@ test("what a lesson's text says, and numbers", () => {
         steps: [{ points: [0, 0, 0, 1, 0, 1], roll: [5, 2], text: "One & <i>two</i>", ask: "Which?", answer: "This." },
             { points: [1, 0, 0, 0, 0, 0], roll: null, text: "Last", ask: "", answer: "" }] };
     equal("a lesson comes back", readLessons(writeLesson(lesson)), { lessons: [lesson], fault: "" });
-    equal("lines go on", readLessons("lesson: x\nstep: 1,0,0,0,0,0\ntext: a\nb\n\n# c\nfrom: d\nask: e").lessons[0].steps[0],
-        { points: [1, 0, 0, 0, 0, 0], roll: null, text: "a b", ask: "e", answer: "" });
+    equal("lines go on", readLessons("lesson: x\nstep: 1,0,0,0,0,0\ntext: a\nb\n\n# c\nfrom: d\nask: e").lessons[0]
+        .steps[0], { points: [1, 0, 0, 0, 0, 0], roll: null, text: "a b", ask: "e", answer: "" });
     for (const [given, fault] of [["", "There is no lesson in it."], ["lesson: x", "A lesson has no step."],
         ["step: 1,0,0,0,0,0", "Line 1: a lesson begins with its title"],
         ["lesson: x\nstep: 1,2", "Line 2: a step is six counts with commas between them"],

@@ -18,7 +18,7 @@ test("a drill of plays", async () => {
     const gone = 15 - first.reduce((sum, count) => sum + count, 0);
     await used.run("a drill of plays", [["the first question is where one goes on, and nothing edits or tells", "", {
         board: first.join(), "state roll": [high, low], "hidden coach": false, focus: "coach",
-        said: `Question 1 of 20. Which play of ${high}-${low} is best? The board: ${position.join(", ")}, ${gone} borne off.`,
+        said: `Question 1 of 20. Which play of ${high}-${low} is best? The board: ${[...position, gone].join(", ")} borne off.`,
         title: "Question 1 of 20: Gaps \u2013 Bearing off", "count #plays .cost": 0, grid: "", "not in coach": "lost",
         ...Object.fromEntries(EDITS.map((key) => [`there ${key}`, false])) }]]);
     equal("in sight, with all plays", [used.document.body.scrolled, used.plays().length], [1, 3]);
@@ -40,7 +40,7 @@ test("a drill of plays", async () => {
     for (const [place, { points, roll }] of asked.slice(0, 7).entries()) {
         await used.run("once more", [
             [`question ${place + 1}`, "", { board: points.join(), "in coach": `Once more, ${place + 1} of 7.`,
-                "count #plays .cost": 0, grid: "" }],
+                "count #plays .cost, #coach .verdict": 0, grid: "" }],
             ["the way on from there", [place < 3 ? best(roll) : losing(roll)],
                 { "next question": place < 6 ? "Next" : "Score" }],
         ]);
@@ -194,6 +194,33 @@ test("the review", async () => {
     const misses = [5n, 9n, 7n].map((loss, place) => ({ at: `${place},1,0,0,0,0`, roll: [2, 1], play: { loss } }));
     equal("the dearest of some", openedOf({ drill: { ask: "play" }, estimates: [], guesses: misses,
         questions: misses.map(({ at, roll: dice }) => ({ points: at.split(",").map(Number), roll: dice })) }).place, 1);
+});
+
+test("the rows of the review", async () => {
+    const lessons = Array.from({ length: 17 }, (_, place) => `lesson: L${place + 1}\nstep: 1,0,0,0,0,0`).join("\n");
+    const used = await Used.open("#list=2,2,2,2,2,2,31.0,0,0,1,0,1,52&ask=play", { lessons });
+    const boards = () => [...used.document.querySelectorAll(".reviewed .row svg.small")]
+        .map((board) => board.getAttribute("aria-label").replace(/.*: (.*),.*/, "$1"));
+    await used.run("the rows of plays", [["each has its own",
+        [losing("31"), "next question", asGood("52"), "next question",
+        losing("31"), "next question"], { "all .reviewed .which": ["1", "2"],
+            "all .reviewed .row .heard": ["3 and 1", "5 and 2"],
+        "all .reviewed .row dt": Array(2).fill(["Yours", "Best", "Lost, in rolls"]).flat(),
+        "all .reviewed .row dd": ["3/1 1/2", "3/off 1/0", "\u22120.056", "5/off 2/1", "5/off 2/0", "nothing"],
+        "aria-expanded of open 0": "true", "aria-label of open 0": "Why, question 1", "there open 1": false,
+        "all .reviewed li > .compared figcaption": ["Yours 3/1 1/2 \u22120.056", "Best 3/off 1/0 "],
+        "count .reviewed .why .signs": 1, "fitting lesson": "L3", "href of fitting lesson": "#lesson=3",
+        "count #review > .fits:first-child": 1, "all #steering button": ["Previous", "Done"] }]]);
+    equal("its board", boards(), ["2 on 6, 2 on 5, 2 on 4, 2 on 3, 2 on 2, 2 on 1", "1 on 6, 1 on 4"]);
+    await used.run("", [["nothing is open in the next drill", "open 0, finish", { "state opened": undefined }]]);
+    const numbers = await Used.open("#list=1,1,0,0,0,0.2,0,0,0,0,0&ask=wastage");
+    const [first, second] = numbers.session.state.questions.map(({ points }) => answerTo(points).wastage.thousandths);
+    await numbers.run("the rows of estimates", [["each has its own",
+        ["estimate=-1.5", "tell", "next question", "estimate=8",
+        "tell", ...Array(3).fill("next question")], { screen: "review", "count .reviewed button": 0,
+        "all .reviewed dt": Array(2).fill(["Yours", "Right", "Off, in pips"]).flat(),
+            "all .reviewed dd": ["\u22121.500",
+            decimal(first), decimal(first + 1500n), "8.000", decimal(second), decimal(second - 8000n)] }]]);
 });
 
 // A drill's result goes back to a teacher as a text.

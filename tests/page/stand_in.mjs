@@ -316,8 +316,13 @@ const gradedFrom = (turns, bound) => ({ fault: null, rows: turns.map(({ points, 
 
 // A drill whose rolls all have a play that loses something, and none as good as the best, which
 // fills a point and bears off fewer; in an easy one that bears off fewer, and loses much.
-export const drawFrom = (drill) => drawQuestions(drill, ROLLS, (points) => {
-    const plays = [{ to: points.map((count) => Math.max(1, count)) }, { to: [1, 0, 0, 0, 0, 0] }];
-    return (drill.level === "easy" ? plays.reverse() : plays).map((play, place) =>
-        ({ ...play, isBest: place === 0, loss: place === 0 ? 0n : drill.level === "easy" ? 90n : 30n }));
-});
+const drawnBefore = new Map(); // by the words of a drill, since drawing takes long
+export function drawFrom(drill) {
+    const key = JSON.stringify(drill);
+    if (!drawnBefore.has(key)) drawnBefore.set(key, drawQuestions(drill, ROLLS, (points) => {
+        const plays = [{ to: points.map((count) => Math.max(1, count)) }, { to: [1, 0, 0, 0, 0, 0] }];
+        return (drill.level === "easy" ? plays.reverse() : plays).map((play, place) =>
+            ({ ...play, isBest: place === 0, loss: place === 0 ? 0n : drill.level === "easy" ? 90n : 30n }));
+    }));
+    return drawnBefore.get(key);
+}

@@ -1,5 +1,5 @@
-// One's own games, and what a teacher has, without a browser: a match from its text or its file to the first of its misses
-// that comes back, a class's drill with its sheet and key, and the results that come back.
+// One's own games, and what a teacher has, without a browser: a match from its text or its file to the first of its
+// misses that comes back, a class's drill with its sheet and key, and the results that come back.
 import { readFileSync } from "node:fs";
 import { readLink, readTyped } from "../../web/link.js";
 import { readResults } from "../../web/results.js";
@@ -99,7 +99,9 @@ test("results", async () => {
     };
     await give("nothing yet", "", { "role of results-why": "alert" });
     await give("who answered most and lost least first, and which questions most have missed",
-        `Dear teacher,\n\n${one("Ada L.", "56 0 - 0")}\n\nBye\n${one("Bo", "0 0 20 1")}\r\n${one("<i>Cy</i>", "0 70 20 7")}`,
+        [`Dear teacher,\n\n${one("Ada L.", "56 0 - 0")}\n\nBye`, `${one("Bo", "0 0 20 1")}\r`,
+            one("<i>Cy</i>", "0 70 20 7")]
+            .join("\n"),
         { pupils: ["Bo 4 2 0.021", "<i>Cy</i> 4 3 0.097", "Ada L. 3 1 0.056"], questions: ["Question 3 2 of 3 \u2013",
             "Question 4 2 of 3 \u2013", "Question 1 1 of 3 \u2013", "Question 2 1 of 3 \u2013"] });
     equal("each is a link", [...used.document.querySelectorAll(".questions a")].map((node) =>
@@ -110,7 +112,8 @@ test("results", async () => {
         { pupils: ["Bo 2 0 0.000", "Ada 2 1 0.056", "Cy 2 1 0.056"], questions: [
             "Question 2 2 of 3 6/off (best): Bo; 5/1 4/2 (\u22120.056): Ada, Cy",
                 "Question 1 0 of 3 6/off (best): Ada, Bo, Cy"] });
-    equal("of a list too", [readResults("bearoff result 1\ndrill all 1 play any\nlist 1,1,0,0,0,0,21\nname A\nlost 0").results[0]
+    const ofList = "bearoff result 1\ndrill all 1 play any\nlist 1,1,0,0,0,0,21\nname A\nlost 0";
+    equal("of a list too", [readResults(ofList).results[0]
         .drill, readResults(plays("A", "6/7")).fault, readResults(`${plays("A", "6/off")}, 6/off`).fault],
     [{ theme: "all", seed: 1, ask: "play", list: [{ points: [1, 1, 0, 0, 0, 0], roll: [2, 1] }] },
         "Line 5 can't be read.", "Result 1 is not whole."]);

@@ -1,5 +1,5 @@
-// What is said of an answer, without a browser: what a play has lost and why, how far an estimate was off, and what stays
-// of a run when the page is loaded anew.
+// What is said of an answer, without a browser: what a play has lost and why, how far an estimate was off, and what
+// stays of a run when the page is loaded anew.
 import { inWords } from "../../web/points.js";
 import { readLink } from "../../web/link.js";
 import { missedOf, missKey, mistakesOf, verdictOf } from "../../web/state/reads.js";
@@ -49,7 +49,7 @@ test("why a play loses", async () => {
     await used.worker.answerAll();
     used.sees("once it is known", { focus: "next question",
         "all #reasons thead th, #reasons figcaption b": ["Yours", "Best", "Yours", "Best"],
-        "#reasons p": "Of the 36 next throws yours is worse after 23, better after none. Most is lost where 6-5 follows:" });
+        "begins #reasons p": "Of the 36 next throws yours is worse after 23, better after none. Most is lost where 6-5 " });
     equal("it is told", says(), told(one));
     for (const [name, does, wanted] of [["not beside the next question", "next question", null],
         ["nothing of the best play", best(two.roll), null],
