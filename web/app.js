@@ -5,17 +5,15 @@ import { boardActions } from "./actions/board.js";
 import { draftActions } from "./actions/draft.js";
 import { copied, focusing } from "./actions/focus.js";
 import { gamesActions } from "./actions/games.js";
-import { shelfActions } from "./actions/shelf.js";
 import { studentActions } from "./actions/student.js";
 import { teacherActions } from "./actions/teacher.js";
 import { trainingActions } from "./actions/training.js";
-import { Client } from "./client.js";
+import { Bar, Client } from "./client.js";
 import { Past } from "./history.js";
 import { readDraft, readPicks, writeDraft, writePicks } from "./kept.js";
 import { readLink, writeLink } from "./link.js";
 import { answered, dayOf, learnt, Store } from "./memory.js";
-import { Bar } from "./progress.js";
-import { savePicture } from "./saving.js";
+import { savePicture } from "./picture.js";
 import { Session } from "./session.js";
 import { needsMore } from "./state/database.js";
 import { captionOf } from "./state/reads.js";
@@ -93,8 +91,7 @@ function actionsOf(session, document, window, store) {
     };
     return {
         ...boardActions(given), ...trainingActions(given), ...studentActions(given),
-        ...draftActions(given), ...gamesActions(given), ...shelfActions(given),
-        ...teacherActions(given),
+        ...draftActions(given), ...gamesActions(given), ...teacherActions(given),
     };
 }
 

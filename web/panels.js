@@ -1,9 +1,8 @@
 // What is shown of a position beside the board: numbers, chances, rolls and plays.
 import { button, h, table } from "./tree.js";
 import { lookedAt, miniature, replied } from "./board.js";
-import { GREATEST } from "./points.js";
+import { GREATEST, ROLLS, sameRoll } from "./points.js";
 import { decimalOf, inSentence, isShort } from "./fractions.js";
-import { ROLLS, sameRoll } from "./rolls.js";
 import { byLoss } from "./state/reads.js";
 
 const FACES = {

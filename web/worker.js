@@ -2,7 +2,7 @@
 import { Database } from "../js/database.js";
 import { BearoffError } from "../js/errors.js";
 import { chancesOf, choicesOf, playsOf, roundedOf } from "./answers.js";
-import { ROLLS } from "./rolls.js";
+import { ROLLS } from "./points.js";
 import { measured } from "./rules.js";
 import { REFUSALS } from "./texts.js";
 import { positions } from "./themes.js";

@@ -2,12 +2,11 @@
 // marks, a drill of one's choice, and what is said of a link that can't be taken.
 import { readLink } from "../../web/link.js";
 import { drillOfLesson, fittingLesson, lessonOfDrill, ROOMS } from "../../web/rooms.js";
-import { isFar, missedOf } from "../../web/state/reads.js";
 import { learntBetween } from "../../web/state.js";
+import { isFar, missedOf } from "../../web/state/reads.js";
 import { giveEstimate } from "../../web/state/training.js";
 import { THEMES } from "../../web/themes.js";
-import { settled, tell } from "./stand_in.mjs";
-import { about, best, equal, linkOf, losing, memoryOf, test, Used } from "./used.mjs";
+import { about, best, equal, linkOf, losing, memoryOf, settled, tell, test, Used } from "./stand_in.mjs";
 
 // Which parts of the page are in the document on each screen.
 test("what is on each screen", async () => {
@@ -39,17 +38,20 @@ test("what is on each screen", async () => {
 });
 
 test("lessons, their drills and marks", async () => {
-    const lessons = "lesson: One\nstep: 0,0,0,1,0,1\nroll: 52\ntext: On the EPC.\nask: Which?\nanswer: That.";
+    const lessons = "lesson: One\nstep: 0,0,0,1,0,1\nroll: 52\ntext: On the EPC.\nask: Which?\nanswer: That.\n"
+        + "lesson: Two\nstep: 1,0,0,0,0,0";
     const used = await Used.open("", { lessons });
     await used.run("lessons, their drills and marks", [
-        ["no mark", "", { "there mark 1": false, "aria-label of drill 1": "Drill: One" }]]);
+        ["no mark", "", { "there mark 1": false, "aria-label of drill 1": "Drill: One",
+            "all .rooms h3": ["Count", "Shape"] }]]);
     await used.do([`go ${used.find("lesson 1").getAttribute("href")}`]);
     const lessonsOf = () => used.session.state.memory.lessons;
     equal("not read yet", lessonsOf(), []);
     await used.do("answer");
     equal("read", [lessonsOf(), used.window.kept.get("bearoff memory").endsWith("\nlesson 1 0 0")],
         [[[1, 0, 0]], true]);
-    await used.run("", [["its mark", "end training", { "mark 1": "read" }]]);
+    await used.run("", [["its mark, and the board as it was", "end training", { "mark 1": "read",
+        "href of free board": "#at=0,0,0,1,0,1" }]]);
     await used.do("drill 1");
     const { drill } = used.session.state;
     equal("its drill", [drill.theme, drill.ask, lessonOfDrill(drill)], ["all", "wastage", 1]);
@@ -57,6 +59,11 @@ test("lessons, their drills and marks", async () => {
     const mark = `${used.session.state.estimates.filter((one) => !isFar(one)).length} of 20`;
     await used.run("", [["how much was right stays", "go #home", { "mark 1": mark }]]);
     (await Used.open("", { lessons, kept: used.window.kept })).sees("when the page is loaded anew", { "mark 1": mark });
+    await used.do("drill 2");
+    equal("the drill of another lesson", lessonOfDrill(used.session.state.drill), 2);
+    await used.run("", [["the doors, and what can be chosen", "go #home", {
+        "href of your games": "#games", "href of teachers": "#teacher",
+        "all [data-key=level] option": ["Any", "Easy", "Mixed", "Hard"] }]]);
     const two = { drill: null, lesson: 1, lessons: [{ steps: [{ answer: "" }, { answer: "" }] }], isAnswered: false };
     equal("a lesson is read at its last step", [1, 2].map((step) =>
         learntBetween({ ...two, step: 0 }, { ...two, step })),
@@ -125,7 +132,7 @@ test("a student's days", async () => {
     const many = comeBack(missed.length);
     await used.run("", [
         ["the score", "", { "in coach": many }],
-        ["after ten", "end training", { ".daily-told": `Today\u2019s ten are done. ${many}`,
+        ["after ten", "end training", { "class of today": "begin", ".daily-told": `Today\u2019s ten are done. ${many}`,
             "#today .begin": "Ten more ten new",
             "all #today dd": ["1 day", "0 today", `0.0${Math.round(5.6 * missed.length)} rolls`,
                 `${ratedBy(before)} of 100`] }],
@@ -133,6 +140,9 @@ test("a student's days", async () => {
             `Today\u2019s ten were done once. Misses by what they lost, in rolls: 0 less than 0.020, ${missed.length
             } 0.020 or more, 0 0.080 or more.` }],
     ]);
+    equal("their bars", [...used.document.querySelectorAll(".days .right-part")]
+        .map((bar) => bar.getAttribute("height")),
+        [String(4 * (10 - missed.length))]);
     equal("the last days", used.document.querySelector(".days").getAttribute("aria-label"),
         `Right on each of the last fourteen days: ${"none, ".repeat(13)}${10 - missed.length} of 10`);
     await used.run("", [["ten more", "today", { "length questions": 10 }]]);
@@ -174,7 +184,8 @@ test("a student's days", async () => {
     await next.run("a text that is taken along", [
         ["it is closed", "", { "aria-expanded of all that is kept": "false", "there memory text": false }],
         ["copied", ["all that is kept", "copy memory", settled], { clipboard: text, "value memory text": text,
-            "in today": "The text is copied." }],
+            "in today": "The text is copied.",
+                levels: "Levels, by the last twenty answers of each theme: Gaps, easy." }],
         ["not copied", [() => { next.window.navigator = { clipboard }; }, "copy memory", settled],
             { "in today": "The browser lets this page copy nothing: copy the text from the field." }],
         ["all is forgotten", "forget", { "begins .daily-told": BEGINNING, "in today": "All is forgotten.",
@@ -382,6 +393,9 @@ test("nothing in silence", async () => {
     }
     equal("each another, of the size that a link can have", [new Set(seeds).size, seeds.every((seed) =>
         Number.isInteger(seed) && seed > 0 && seed <= 999999999)], [3, true]);
+    await used.do("go #home");
+    tell(used.find("seed"), "keydown", { key: "a" });
+    used.sees("another key than Enter begins nothing", { screen: "home" });
     const press = () => { tell(used.find("seed"), "keydown", { key: "Enter" }); };
     for (const [theme, ask, level, how, notice, is] of [
         ["ace", "play", "any", "begin drill", "Ace point alone: nothing is to be decided there, so the EPC is asked.",

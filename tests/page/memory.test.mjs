@@ -10,7 +10,7 @@ import {
 import { drawQuestions, drillOf, mostOf, readDue, TEN, writeDue } from "../../web/questions.js";
 import { positions, themeOf, THEMES } from "../../web/themes.js";
 import { readLink, writeLink } from "../../web/link.js";
-import { ROLLS } from "../../web/rolls.js";
+import { ROLLS } from "../../web/points.js";
 import { drawFrom } from "./stand_in.mjs";
 
 const question = (number = 0, theme = "all") =>

@@ -2,10 +2,9 @@
 // the score, the result as a text, and the sheet.
 import { readLink } from "../../web/link.js";
 import { isFar, openedOf } from "../../web/state/reads.js";
-import { readLessons } from "../../web/trainer.js";
 import { decimal } from "../../web/texts.js";
-import { answerTo, drawFrom, pipsOf, settled } from "./stand_in.mjs";
-import { about, asGood, best, equal, losing, test, Used } from "./used.mjs";
+import { readLessons } from "../../web/trainer.js";
+import { about, answerTo, asGood, best, drawFrom, equal, losing, pipsOf, settled, test, Used } from "./stand_in.mjs";
 
 const GAPS = "#drill=gaps&seed=7&ask=play";
 const asked = drawFrom({ theme: "gaps", seed: 7, ask: "play" });
@@ -18,7 +17,8 @@ test("a drill of plays", async () => {
     const gone = 15 - first.reduce((sum, count) => sum + count, 0);
     await used.run("a drill of plays", [["the first question is where one goes on, and nothing edits or tells", "", {
         board: first.join(), "state roll": [high, low], "hidden coach": false, focus: "coach",
-        said: `Question 1 of 20. Which play of ${high}-${low} is best? The board: ${[...position, gone].join(", ")} borne off.`,
+        said: `Question 1 of 20. Which play of ${high}-${low} is best? The board: ${position.join(", ")}, ${gone} borne `
+            + "off.",
         title: "Question 1 of 20: Gaps \u2013 Bearing off", "count #plays .cost": 0, grid: "", "not in coach": "lost",
         ...Object.fromEntries(EDITS.map((key) => [`there ${key}`, false])) }]]);
     equal("in sight, with all plays", [used.document.body.scrolled, used.plays().length], [1, 3]);
@@ -198,20 +198,22 @@ test("the review", async () => {
 
 test("the rows of the review", async () => {
     const lessons = Array.from({ length: 17 }, (_, place) => `lesson: L${place + 1}\nstep: 1,0,0,0,0,0`).join("\n");
-    const used = await Used.open("#list=2,2,2,2,2,2,31.0,0,0,1,0,1,52&ask=play", { lessons });
+    const used = await Used.open("#list=2,2,2,2,2,2,31.0,0,0,1,0,1,52.0,0,3,0,0,0,61&ask=play", { lessons });
     const boards = () => [...used.document.querySelectorAll(".reviewed .row svg.small")]
         .map((board) => board.getAttribute("aria-label").replace(/.*: (.*),.*/, "$1"));
-    await used.run("the rows of plays", [["each has its own",
-        [losing("31"), "next question", asGood("52"), "next question",
-        losing("31"), "next question"], { "all .reviewed .which": ["1", "2"],
-            "all .reviewed .row .heard": ["3 and 1", "5 and 2"],
-        "all .reviewed .row dt": Array(2).fill(["Yours", "Best", "Lost, in rolls"]).flat(),
-        "all .reviewed .row dd": ["3/1 1/2", "3/off 1/0", "\u22120.056", "5/off 2/1", "5/off 2/0", "nothing"],
-        "aria-expanded of open 0": "true", "aria-label of open 0": "Why, question 1", "there open 1": false,
-        "all .reviewed li > .compared figcaption": ["Yours 3/1 1/2 \u22120.056", "Best 3/off 1/0 "],
-        "count .reviewed .why .signs": 1, "fitting lesson": "L3", "href of fitting lesson": "#lesson=3",
-        "count #review > .fits:first-child": 1, "all #steering button": ["Previous", "Done"] }]]);
-    equal("its board", boards(), ["2 on 6, 2 on 5, 2 on 4, 2 on 3, 2 on 2, 2 on 1", "1 on 6, 1 on 4"]);
+    const plays = [losing("31"), asGood("52"), losing("61"), losing("31"), losing("61")];
+    await used.run("the rows of plays", [["each has its own, and the first of the dearest is open",
+        plays.flatMap((play) => [play, "next question"]), { "all .reviewed .which": ["1", "2", "3"],
+            "all .reviewed .row .heard": ["3 and 1", "5 and 2", "6 and 1"],
+            "all .reviewed .row dt": Array(3).fill(["Yours", "Best", "Lost, in rolls"]).flat(),
+            "all .reviewed .row dd": ["3/1 1/2", "3/off 1/0", "\u22120.056", "5/off 2/1", "5/off 2/0", "nothing",
+                "6/1 1/2", "6/off 1/0", "\u22120.056"],
+            "aria-expanded of open 0": "true", "aria-label of open 0": "Why, question 1", "there open 1": false,
+            "all .reviewed li > .compared figcaption": ["Yours 3/1 1/2 \u22120.056", "Best 3/off 1/0 "],
+            ".reviewed .why th[scope=row]": "Of 2,2,2,2,2,2 with 3,1", "fitting lesson": "L3",
+            "href of fitting lesson": "#lesson=3", "count #review > .fits:first-child": 1,
+            "all #steering button": ["Previous", "Done"] }]]);
+    equal("its board", boards(), ["2 on 6, 2 on 5, 2 on 4, 2 on 3, 2 on 2, 2 on 1", "1 on 6, 1 on 4", "3 on 3"]);
     await used.run("", [["nothing is open in the next drill", "open 0, finish", { "state opened": undefined }]]);
     const numbers = await Used.open("#list=1,1,0,0,0,0.2,0,0,0,0,0&ask=wastage");
     const [first, second] = numbers.session.state.questions.map(({ points }) => answerTo(points).wastage.thousandths);

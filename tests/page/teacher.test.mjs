@@ -2,35 +2,52 @@
 // misses that comes back, a class's drill with its sheet and key, and the results that come back.
 import { readFileSync } from "node:fs";
 import { readLink, readTyped } from "../../web/link.js";
+import { inWords } from "../../web/points.js";
 import { readResults } from "../../web/results.js";
-import { pipsOf, settled } from "./stand_in.mjs";
-import { about, equal, test, Used } from "./used.mjs";
+import { about, equal, pipsOf, settled, tell, test, Used } from "./stand_in.mjs";
 
 test("one's own games", async () => {
     const match = (kind) => readFileSync(new URL(`../../python/tests/matches/short.${kind}`, import.meta.url), "utf8");
     const used = await Used.open("#games");
+    const LOUD = "class of read match";
+    const INVALID = "aria-invalid of match text";
     await used.run("one's own games", [
-        ["at first", "", { "aria-describedby of match text": "match-why", "count .reviewed": 0 }],
-        ["a fault", ["match text=7 point match\n\nGame 2", "read match"], { focus: "match text",
+        ["at first", "", { "aria-describedby of match text": "match-why", "count .reviewed": 0, [LOUD]: "first",
+            "accept of match file": ".mat,.sgf,.txt" }],
+        ["a fault", ["match text=7 point match\n\nGame 2", "read match"], { focus: "match text", [INVALID]: "true",
             "match-why": "No match: line 3: it should be game 1: Game 2", "role of match-why": "alert" }],
-        ["a match", [`match text=${match("mat")}`, "read match"], { "match-why": "" }],
+        ["a match", [`match text=${match("mat")}`, "read match"],
+            { "match-why": "", [LOUD]: null, [INVALID]: "false" }],
     ]);
     const rows = () => [...used.document.querySelectorAll("#games .reviewed li")];
-    const { turns, rows: graded } = used.session.state.match;
+    const textsOf = (node, selector) => [...node.querySelectorAll(selector)].map((one) => one.textContent);
+    const { turns, rows: graded, names } = used.session.state.match;
     const isOver = ({ points }) => pipsOf(points) > 44;
-    equal("each bearoff play of at most 44 pips", [rows().length, graded.map((row) => !row)],
-        [turns.filter((turn) => !isOver(turn)).length, turns.map(isOver)]);
-    const [first] = turns.filter((_, place) => graded[place]);
-    const row = graded.find(Boolean);
-    const pips = Number(row.play.exact.split("/")[0]) * 49 / 6 / 18;
-    equal("what one lost, in rolls and in pips", [".which", "dd", "dd:nth-of-type(2)"].map((one) =>
-        rows()[0].querySelector(one).textContent), [`1, ${first.move}`, row.play.text, row.best.text]);
-    equal("and how much", row.play.isBest || rows()[0].textContent.includes(`${pips.toFixed(3)} pips`), true);
-    equal("of both players", [...used.document.querySelectorAll("#games tbody tr")].map((line) =>
-        Number(line.children[1].textContent)).reduce((sum, plays) => sum + plays), rows().length);
+    equal("each bearoff play of at most 44 pips", graded.map((row) => !row), turns.map(isOver));
+    const known = turns.map((turn, place) => ({ ...turn, ...graded[place] })).filter(({ play }) => play);
+    // what some plays have lost, which the stand-in has in eighteenths of a roll, in rolls and in pips
+    const lostBy = (...plays) => plays.reduce((sum, { play }) => sum + Number(play.exact.split("/")[0]), 0);
+    const told = (...plays) => [18, 108 / 49].map((parts) => (lostBy(...plays) / parts).toFixed(3));
+    equal("each has its own", rows().map((row) => [row.className,
+        row.querySelector("svg.small").getAttribute("aria-label"),
+        ...textsOf(row, ".which, .heard, dt, dd")]), known.map((one) => [one.play.isBest ? "good" : "lost",
+        `The board: ${inWords(one.points)}`, `${one.game}, ${one.move}`,
+        one.dice[0] === one.dice[1] ? `Double ${one.dice[0]}` : one.dice.join(" and "), names[one.player],
+            one.play.text,
+        "Best", one.best.text, "Lost", one.choices === 1 ? "the only play" : one.play.isBest ? "nothing"
+            : `${told(one)[0]} rolls, ${told(one)[1]} pips`]));
+    equal("of both players", [...used.document.querySelectorAll("#games tbody tr")]
+        .map((line) => textsOf(line, "th, td")),
+        names.map((name, player) => {
+            const theirs = known.filter((one) => one.player === player);
+            return [name, theirs.length, theirs.filter(({ choices }) => choices > 1).length,
+                theirs.filter(({ play }) => !play.isBest).length, ...told(...theirs),
+                ...(turns.some(isOver) ? [turns.filter((turn) => turn.player === player && isOver(turn)).length] : []),
+                lostBy(...theirs) > 0 ? "Ask me these" : ""].map(String);
+        }));
     const player = [0, 1].find((one) => used.find(`ask ${one}`));
-    const misses = graded.flatMap((one, place) => (one && turns[place].player === player && one.play.loss > 0n
-        ? [[turns[place].points, Number(one.play.loss)]] : []));
+    const misses = known.filter((one) => one.player === player && one.play.loss > 0n)
+        .map(({ points, play }) => [points, Number(play.loss)]);
     await used.run("", [["its misses come back", [`ask ${player}`, `ask ${player}`],
         { "in games": `${misses.length} questions come back from today on.` }]]);
     equal("each once", used.session.state.memory.cards.map(({ points, lost }) => [points, lost]), misses);
@@ -41,6 +58,21 @@ test("one's own games", async () => {
         ["Back to the games", "go #games", { screen: "games" }],
     ]);
     equal("they are there", rows().length > 0, true);
+    const { state } = used.session;
+    used.session.become({ ...state, matchFault: "line 3" });
+    used.sees("a fault of the database, and no plays", { "count #games .reviewed": 0, "not in games": "No bearoff" });
+    const { place } = turns.map((turn, at) => ({ ...turn, place: at }))
+        .find((turn) => turn.points.join() === dearest.join());
+    used.session.become({ ...state, match: { ...state.match, rows: graded.map((row, at) =>
+        (at === place ? { ...row, choices: 1 } : null)) } });
+    await used.run("", [["one of them", [`ask ${player}`], { "in games": ["One question comes back from today on.",
+        "the only play"],
+        'all #games td[data-head="with a choice"]': ["0", "0"] }]]);
+    tell(used.find("match file"), "change", { target: { files: [new Blob([match("mat")])] } });
+    await settled();
+    await used.answered("chosen");
+    used.sees("a file that is chosen, of which nothing was said yet", { "not in games": "back from today" });
+    equal("it is read", rows().length, known.length);
     await used.do("go #at=1,0,0,0,0,0");
     await used.drop(Object.assign(new Blob([Buffer.from(match("sgf").replace("PW[", "PW[J\u00fc"), "latin1")]),
         { name: "x.SGF" }));
@@ -62,7 +94,14 @@ test("a class's drill", async () => {
         [Array(61).fill("1,1,0,0,0,0 21").join("\n"), "Line 61: A drill has at most 60 positions."],
     ].map(([text, why]) => [`refused, ${text.slice(0, 20)}`, write(text, "sheet"),
         { "positions-why": why, focus: "positions", "there print sheet": false }]));
-    await used.do(write(`1,1,0,0,0,0 21\r\n\n2 2 2 2 2 2 3-1\n${XGID}\n${XGID} 61`, "sheet"));
+    // two at once: the first is let go
+    for (const text of ["3,0,0,0,0,0 11", `1,1,0,0,0,0 12\r\n\n2 2 2 2 2 2 3-1\n${XGID}\n${XGID} 61`]) {
+        used.find("positions").value = text;
+        used.click("sheet");
+    }
+    await used.answered("both sheets");
+    used.sees("the fault is gone, and dice stand there", { "positions-why": "",
+        "all .key .heard": ["2 and 1", "3 and 1", "2 and 1", "6 and 1"] });
     const { drill: { list }, key } = used.session.state.sheet;
     equal("positions, one a line", list.map(({ points, roll }) => `${points} ${roll.join("")}`),
         ["1,1,0,0,0,0 21", "2,2,2,2,2,2 31", ...["21", "61"].map((roll) => `${readTyped(XGID).points} ${roll}`)]);
@@ -70,8 +109,14 @@ test("a class's drill", async () => {
     await used.run("a class's drill", [
         ["on paper", "print sheet", { "count #printed .drill-printed .small": 4, "#printed .name-line": "Name",
             "all #printed .answers-printed li": key }],
-        ["the class link", [...write("1,1,0,0,0,0\n2,2,2,2,2,2", "copy class", "effective"), settled], {}],
+        ["the class link", [...write("1,1,0,0,0,0 21\n2,2,2,2,2,2", "copy class", "effective"), settled],
+            { "in teaching": "The link of the class is copied." }],
+        ["a seed that is none", ["positions=", "seed=x", "sheet"], { "not in teaching": "is copied",
+            "positions-why": "A seed is a whole number from 1 to 999999999." }],
+        ["an ace point has nothing to play", ["theme=ace", "seed=5", "sheet"], { "positions-why": "" }],
     ]);
+    equal("so the EPC is asked", used.session.state.sheet.drill, { theme: "ace", seed: 5, ask: "effective" });
+    await used.do("theme=all, seed=");
     equal("printed", used.window.printed, 1);
     const link = used.window.copied.replace(/^[^#]*/, "");
     equal("the link", [link, readLink(link).faults], ["#list=1,1,0,0,0,0.2,2,2,2,2,2&ask=effective", []]);

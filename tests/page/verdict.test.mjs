@@ -1,12 +1,12 @@
 // What is said of an answer, without a browser: what a play has lost and why, how far an estimate was off, and what
 // stays of a run when the page is loaded anew.
-import { inWords } from "../../web/points.js";
 import { readLink } from "../../web/link.js";
-import { missedOf, missKey, mistakesOf, verdictOf } from "../../web/state/reads.js";
+import { inWords } from "../../web/points.js";
 import { begin } from "../../web/state.js";
+import { missedOf, missKey, mistakesOf, verdictOf } from "../../web/state/reads.js";
 import { giveEstimate } from "../../web/state/training.js";
-import { answerTo, drawFrom, settled, tell, whyFrom } from "./stand_in.mjs";
-import { about, asGood, best, equal, losing, test, Used, WAITS } from "./used.mjs";
+import { about, answerTo, asGood, best, drawFrom, equal, losing, settled, tell, test, Used, WAITS,
+    whyFrom } from "./stand_in.mjs";
 
 const GAPS = "#drill=gaps&seed=7&ask=play";
 const asked = drawFrom({ theme: "gaps", seed: 7, ask: "play" });
@@ -49,7 +49,8 @@ test("why a play loses", async () => {
     await used.worker.answerAll();
     used.sees("once it is known", { focus: "next question",
         "all #reasons thead th, #reasons figcaption b": ["Yours", "Best", "Yours", "Best"],
-        "begins #reasons p": "Of the 36 next throws yours is worse after 23, better after none. Most is lost where 6-5 " });
+        "#reasons p": "Of the 36 next throws yours is worse after 23, better after none. "
+            + "Most is lost where 6-5 follows:" });
     equal("it is told", says(), told(one));
     for (const [name, does, wanted] of [["not beside the next question", "next question", null],
         ["nothing of the best play", best(two.roll), null],

@@ -1,6 +1,6 @@
 // What is done with a lesson that is made on the page.
 import { copied } from "./focus.js";
-import { saveAs } from "../saving.js";
+import { saveAs } from "../picture.js";
 import {
     addDraft, beginDraft, closeDraft, draftText, moveDraft, removeDraft, tellDraft, titleDraft,
     writeDraft,
