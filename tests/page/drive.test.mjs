@@ -1475,6 +1475,15 @@ async function drivePrint(browser) {
         await pages(page, hash, text.includes("Answers") ? 2 : 1);
         await page.close();
     }
+    // a class's sheet, and the key on a page of its own
+    const ofClass = await browser.open(`${address}#teacher`);
+    await ofClass.until(`document.body.dataset.ready && document.querySelector('${keyed("sheet")}')`);
+    await ofClass.value(write("positions", "2,2,2,2,2,2 31\n0,0,0,1,0,1 52", "sheet"));
+    await ofClass.there(".key li");
+    await pages(ofClass, "a sheet", 2);
+    const [sheet, ...drawn] = await printed(ofClass);
+    equal("a class's sheet on paper", [drawn, ["Name", "Key", "6/1 4/2"].filter((word) => !sheet.includes(word))],
+        [[[12, 2], 4, []], []]);
     // each lesson of the page, whole: its title, and of each step the board, the text, the question, the dice and the
     // answer
     const { lessons } = readLessons(readFileSync(new URL("../../web/lessons.txt", import.meta.url), "utf8"));

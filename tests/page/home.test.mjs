@@ -104,9 +104,8 @@ async function play(used, isMissed) {
 test("a student's days", async () => {
     let used = await Used.open();
     await used.run("the first day", [["the panel, and what stays where", "",
-        { "hidden today": false, today: used.text("today"),
-        ".daily-told": `${BEGINNING} Ten questions, the first ones easy, some three minutes. What you miss comes back `
-            + "tomorrow.",
+        { "hidden today": false, ".daily-told": `${BEGINNING} Ten questions, the first ones easy, some three minutes. `
+            + "What you miss comes back tomorrow.",
         "#today .begin": "Begin ten new", "in today": "What you answer stays on this device; nothing of it is sent.",
         "count #today .days": 0 }]]);
     equal("nothing is kept", used.window.kept.size, 0);
@@ -208,8 +207,8 @@ test("a student's days", async () => {
     ]);
 
     used = await Used.open("", { localStorage: undefined });
-    await used.run("without a store", [["it is said", "today", {}]].slice(1).concat([["it is said", "", {
-        "in today": "This browser keeps nothing for the page: what you answer is there till it closes." }]]));
+    await used.run("without a store", [["it is said", "", {
+        "in today": "This browser keeps nothing for the page: what you answer is there till it closes." }]]);
     await used.do("today");
     await play(used, (place) => place === 0);
     await used.run("", [["it works till then", "end training",
@@ -249,7 +248,7 @@ test("what counts for the ten, and for a rating", async () => {
     ]);
 
     about("a rating");
-    used = await Used.open("", { before() {} });
+    used = await Used.open();
     await used.do("today");
     const [first, second] = used.session.state.questions;
     for (const [name, does, rating] of [["a play at random loses the mean of all", best(first.roll), "0 19000 1"],

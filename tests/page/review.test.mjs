@@ -17,8 +17,8 @@ test("a drill of plays", async () => {
     const gone = 15 - first.reduce((sum, count) => sum + count, 0);
     await used.run("a drill of plays", [["the first question is where one goes on, and nothing edits or tells", "", {
         board: first.join(), "state roll": [high, low], "hidden coach": false, focus: "coach",
-        said: `Question 1 of 20. Which play of ${high}-${low} is best? The board: ${position.join(", ")}, ${gone} borne `
-            + "off.",
+        said: `Question 1 of 20. Which play of ${high}-${low} is best? The board: ${position.join(", ")}, ${gone} `
+            + "borne off.",
         title: "Question 1 of 20: Gaps \u2013 Bearing off", "count #plays .cost": 0, grid: "", "not in coach": "lost",
         ...Object.fromEntries(EDITS.map((key) => [`there ${key}`, false])) }]]);
     equal("in sight, with all plays", [used.document.body.scrolled, used.plays().length], [1, 3]);
