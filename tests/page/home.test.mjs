@@ -194,7 +194,8 @@ test("a student's days", async () => {
             "role of memory-why": "alert", "aria-invalid of memory text": "true", focus: "memory text" }],
     ]);
     equal("nothing is kept", next.window.kept.size, 0);
-    await next.run("", [["it is there again", [`memory text=${text}`, "take memory"], { "memory-why": "",
+    await next.run("", [["it is there again, once", [`memory text=${text}`, "take memory", "take memory"],
+        { "memory-why": "",
         "begins .daily-told": `${missed.length} that you missed`, "in today": "The text is taken." }]]);
     equal("all of it", kept(next), text);
 

@@ -201,7 +201,7 @@ test("the rows of the review", async () => {
     const used = await Used.open("#list=2,2,2,2,2,2,31.0,0,0,1,0,1,52.0,0,3,0,0,0,61&ask=play", { lessons });
     const boards = () => [...used.document.querySelectorAll(".reviewed .row svg.small")]
         .map((board) => board.getAttribute("aria-label").replace(/.*: (.*),.*/, "$1"));
-    const plays = [losing("31"), asGood("52"), losing("61"), losing("31"), losing("61")];
+    const plays = [losing("31"), asGood("52"), losing("61"), best("31"), losing("61")];
     await used.run("the rows of plays", [["each has its own, and the first of the dearest is open",
         plays.flatMap((play) => [play, "next question"]), { "all .reviewed .which": ["1", "2", "3"],
             "all .reviewed .row .heard": ["3 and 1", "5 and 2", "6 and 1"],
@@ -265,7 +265,9 @@ test("a drill on paper", async () => {
     const [{ roll: [high, low], roll }] = asked;
     const answers = "all #printed .answers-printed li";
     await used.run("a drill on paper", [["its title, and no answer before one is given", "", {
-        "#printed h2": "Drill: Gaps, Play", "in printed": "Seed 7. Which play is best?", [answers]: [] }]]);
+        "#printed h2": "Drill: Gaps, Play", "in printed": "Seed 7. Which play is best?", [answers]: [],
+        "all #printed .line": asked.map(({ roll: [one, other] }) =>
+            (one === other ? `Double ${one}` : `${one} and ${other}`)) }]]);
     equal("its boards and dice", items().map((item) => [item.querySelectorAll("circle.checker").length,
         item.querySelectorAll(".die").length]), asked.map(({ points }) =>
             [points.reduce((sum, count) => sum + count, 0), 2]));

@@ -113,7 +113,7 @@ test("a class's drill", async () => {
             { "in teaching": "The link of the class is copied." }],
         ["a seed that is none", ["positions=", "seed=x", "sheet"], { "not in teaching": "is copied",
             "positions-why": "A seed is a whole number from 1 to 999999999." }],
-        ["an ace point has nothing to play", ["theme=ace", "seed=5", "sheet"], { "positions-why": "" }],
+        ["an ace point has nothing to play", ["theme=ace", "asked=play", "seed=5", "sheet"], { "positions-why": "" }],
     ]);
     equal("so the EPC is asked", used.session.state.sheet.drill, { theme: "ace", seed: 5, ask: "effective" });
     await used.do("theme=all, seed=");
@@ -167,7 +167,11 @@ test("results", async () => {
         ".pupils caption": "Drill: All positions, Play, hard" });
     await give("estimates that are a pip off are missed", one("Ada", "999 1000 0", "few 3 effective any"),
         { pupils: ["Ada 3 1 1.999"], questions: ["Question 2 1 of 1 \u2013"], "in .pupils": "lost, in pips" });
+    await give("two of one name", [one("Ada", "56 0"), one("Ada", "0 0")].join("\n"),
+        { pupils: ["Ada 2 0 0.000", "Ada 2 1 0.056"], questions: ["Question 1 1 of 2 \u2013"] });
     await give("nothing missed", one("Ada", "0 0"), { pupils: ["Ada 2 0 0.000"] });
+    await used.run("results", [["they are there again", "go #home, go #teacher",
+        { "value results": one("Ada", "0 0") }]]);
     const line = (number) => `Line ${number} can't be read.`;
     const other = "Result 2 is of another drill than the first.";
     for (const [words, why] of [
