@@ -260,13 +260,14 @@ test("what counts for the ten, and for a rating", async () => {
     await used.run("", [["told", "end training, all that is kept",
         { "in today": "The rating begins at 0, and looks at about the "
         + "last fifty plays: 100 where nothing was lost, 0 where as much was lost as by plays at random." }]]);
-    // it begins where a beginner stands, who plays at random, and its sign is a minus
+    // it begins where a beginner stands, who plays at random, and its sign is a minus; what is lost each is of plays
+    const themes = ["theme low 2 1 100", "theme pips 2 1 2000"];
     for (const [words, rating] of [["0 0 0", "0"], ["300000 400000 200", "24"], ["0 400000 200", "96"],
         ["500000 400000 200", "\u221224"], ["5000000 400000 9", "\u2212100"]]) {
-        const shown = await Used.open("", { kept: memoryOf("bearoff memory 3", `rating ${words}`,
+        const shown = await Used.open("", { kept: memoryOf("bearoff memory 3", `rating ${words}`, ...themes,
             `day ${day} 20 9 1`) });
-        equal(`the rating of ${words}`, shown.look("all #today dt, #today dd").slice(6),
-            ["Rating", `${rating} of 100`]);
+        equal(`the rating of ${words}`, shown.look("all #today dt, #today dd").slice(4),
+            ["Lost each", "0.050 rolls", "Rating", `${rating} of 100`]);
     }
 
     used = await Used.open("#at=1,0,0,1,0,0&guess=1&roll=31");
