@@ -393,8 +393,8 @@ const WORKERS = "workers.map(({ asked, isEnded }) => [asked[0], Boolean(isEnded)
 // can't be had the first one goes on. Each number on the way is the program's.
 async function driveWider(browser) {
     const [near, far] = ["2,2,2,2,2,1", "0,0,0,3,5,7"];
-    const shows = (page, name, open, hidden = {}) => sees(page, name, { "#open": open, "hidden #bar": true,
-        "hidden #trouble": true, "hidden #wider": true, ...hidden });
+    const shows = (page, name, open, hidden = {}) => sees(page, name, { "#open": open, "count #trouble": 1,
+        "hidden #bar": true, "hidden #trouble": true, "hidden #wider": true, ...hidden });
     const isOpen = (page, bound) => page.until(`document.getElementById("open").textContent === "${bound} pips"`, 60000);
     const open = async (hash, how, what = `${READY} && ${KNOWN} && document.querySelector(".rolls .next")`) => {
         const page = await browser.open(address + hash, { before: machine(...how) + WATCH });
