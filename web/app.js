@@ -3,19 +3,17 @@
 import { abilities } from "../js/abilities.js";
 import { boardActions } from "./actions/board.js";
 import { draftActions } from "./actions/draft.js";
-import { focusing } from "./actions/focus.js";
+import { copied, focusing } from "./actions/focus.js";
 import { gamesActions } from "./actions/games.js";
-import { shelfActions } from "./actions/shelf.js";
 import { studentActions } from "./actions/student.js";
 import { teacherActions } from "./actions/teacher.js";
 import { trainingActions } from "./actions/training.js";
-import { Client } from "./client.js";
+import { Bar, Client } from "./client.js";
 import { Past } from "./history.js";
 import { readDraft, readPicks, writeDraft, writePicks } from "./kept.js";
 import { readLink, writeLink } from "./link.js";
 import { answered, dayOf, learnt, Store } from "./memory.js";
-import { Bar } from "./progress.js";
-import { savePicture } from "./saving.js";
+import { savePicture } from "./picture.js";
 import { Session } from "./session.js";
 import { needsMore } from "./state/database.js";
 import { captionOf } from "./state/reads.js";
@@ -93,8 +91,7 @@ function actionsOf(session, document, window, store) {
     };
     return {
         ...boardActions(given), ...trainingActions(given), ...studentActions(given),
-        ...draftActions(given), ...gamesActions(given), ...shelfActions(given),
-        ...teacherActions(given),
+        ...draftActions(given), ...gamesActions(given), ...teacherActions(given),
     };
 }
 
@@ -119,14 +116,8 @@ export async function copyLink(at, window, href) {
 
 // Copies the board's position as text, or says that it can't be, and where the text stands.
 export async function copyPosition(at, window, points) {
-    const text = asText(points);
-    try {
-        await window.navigator.clipboard.writeText(text);
-        at("copied").textContent = "The position is copied as text.";
-    } catch {
-        at("copied").textContent =
-            `The browser lets this page copy nothing. The position is ${points.join()}.`;
-    }
+    at("copied").textContent = await copied(window, asText(points), "The position is copied as text.",
+        `The browser lets this page copy nothing. The position is ${points.join()}.`);
 }
 
 // Starts the page: `parts` are the worker's script and the two modules in base 64.

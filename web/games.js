@@ -3,7 +3,7 @@ import { lookedAt } from "./board.js";
 import { decimalOf, inPips } from "./fractions.js";
 import { COMING, dicePicture } from "./panels.js";
 import { gradedOf, missesOf, playersOf } from "./state/games.js";
-import { button, fault, h } from "./tree.js";
+import { button, fault, h, table } from "./tree.js";
 
 const HEADS = ["plays", "with a choice", "losing", "rolls lost", "pips lost"];
 
@@ -11,17 +11,14 @@ function totals(state, act) {
     const rows = playersOf(state);
     const isOver = rows.some(({ over }) => over > 0);
     const heads = [...HEADS, ...(isOver ? ["over the bound"] : [])];
-    return h("table", { class: "worth" },
-        h("caption", {}, "Both players"),
-        h("thead", {}, h("tr", {}, ["Player", ...heads].map((name) =>
-            h("th", { scope: "col" }, name)), h("td", {}))),
-        h("tbody", {}, rows.map(({ name, plays, choices, losing, lost, over }, player) => h("tr", {},
+    return table({ class: "worth" }, h("caption", {}, "Both players"), ["Player", ...heads, ""],
+        rows.map(({ name, plays, choices, losing, lost, over }, player) => h("tr", {},
             h("th", { scope: "row" }, name),
             [plays, choices, losing, decimalOf(lost), decimalOf(inPips(lost)),
                 ...(isOver ? [over] : [])].map((cell, at) => h("td", { "data-head": heads[at] }, cell)),
             h("td", {}, missesOf(state, player).length > 0
                 && button(`ask ${player}`, "Ask me these", () => act.askMisses(player),
-                    { "aria-label": `Ask me these misses of ${name}` }))))));
+                    { "aria-label": `Ask me these misses of ${name}` })))));
 }
 
 const row = ({ game, move, player, points, dice, play, best, choices }, names) =>

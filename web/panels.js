@@ -1,9 +1,8 @@
 // What is shown of a position beside the board: numbers, chances, rolls and plays.
-import { h } from "./tree.js";
+import { button, h, table } from "./tree.js";
 import { lookedAt, miniature, replied } from "./board.js";
-import { GREATEST } from "./points.js";
+import { GREATEST, ROLLS, sameRoll } from "./points.js";
 import { decimalOf, inSentence, isShort } from "./fractions.js";
-import { ROLLS, sameRoll } from "./rolls.js";
 import { byLoss } from "./state/reads.js";
 
 const FACES = {
@@ -72,11 +71,8 @@ export function sides(mine, theirs, awaited) {
             : [answer ? answer.standing.pips : pips, answer?.effective.text, answer?.wastage.text]
                 .map((text) => h("td", {}, text ?? COMING)));
     return [
-        h("table", { class: "sides" },
-            h("caption", {}, "Both sides"),
-            h("thead", {}, h("tr", {}, h("td", {}), ["Pips", "EPC", "Wastage"]
-                .map((name) => h("th", { scope: "col" }, name)))),
-            h("tbody", {}, row("On roll", mine), row("Other side", theirs, awaited))),
+        table({ class: "sides" }, h("caption", {}, "Both sides"), ["", "Pips", "EPC", "Wastage"],
+            [row("On roll", mine), row("Other side", theirs, awaited)]),
         h("p", { class: "hint" }, "Nothing is said of who wins."),
     ];
 }
@@ -182,25 +178,22 @@ export function plays({ points, dice, list, shown, lost, isHidden, isTrained, st
     return [
         !isTrained && h("div", { class: "top-line" },
             h("h3", {}, dicePicture(dice), " ", told),
-            h("button", {
-                type: "button", class: "close", "data-key": "close", click: () => act.close(),
-            }, "Close")),
+            button("close", "Close", () => act.close(), { class: "close" })),
         !isTrained && !isHidden && lookedAt(points, shown ? shown.moves : []),
         ordered && group("plays", "Plays", { class: "plays" }, stop, act, ordered.map((play) =>
-            h("button", {
-                type: "button", "data-key": `play ${play.text}`,
-                "aria-pressed": String(play.text === shown?.text),
-                class: play.isBest && !isHidden ? "good" : null, click: () => act.play(play.text),
-            },
+            button(`play ${play.text}`, [
                 h("span", { class: "moves" }, play.text), " ",
                 !isHidden && h("span", { class: "cost", title: `${play.exact} of a roll` },
-                    cost(play))))),
+                    cost(play)),
+            ], () => act.play(play.text), {
+                "aria-pressed": String(play.text === shown?.text),
+                class: play.isBest && !isHidden ? "good" : null,
+            }))),
         shown && h("div", { class: "shown" },
             h("p", { class: "loss" }, shown.isBest ? `${shown.text} loses nothing.`
                 : `${shown.text} loses ${inSentence(shown.exact)} of a roll, ${decimalOf(lost)} pips of EPC.`),
-            !isTrained && h("button", {
-                type: "button", class: "onward", "data-key": "onward", click: () => act.onward(),
-            }, `Play ${shown.text}`)),
+            !isTrained && button("onward", `Play ${shown.text}`, () => act.onward(),
+                { class: "onward" })),
     ];
 }
 
@@ -208,18 +201,15 @@ export function plays({ points, dice, list, shown, lost, isHidden, isTrained, st
 export function verdict({ isMiss, first, all, exact }, act) {
     return h("div", { class: isMiss ? "verdict" : "verdict good" },
         h("p", {}, first, " ", all, exact === "0/1" || !isShort(exact) ? null : ` Exactly: ${exact}.`),
-        h("button", { type: "button", "data-key": "reset", click: () => act.reset() },
-            "Count anew"));
+        button("reset", "Count anew", () => act.reset()));
 }
 
 // What the play that was guessed leaves beside the best one, and where most of it is lost.
 export const reasons = (why) => why !== null && [
-    why.rows.length > 0 && h("table", { class: "signs" },
-        h("caption", { class: "heard" }, "What yours and the best leave"),
-        h("thead", {}, h("tr", {}, h("td", {}),
-            ["Yours", "Best"].map((whose) => h("th", { scope: "col" }, whose)))),
-        h("tbody", {}, why.rows.map(({ name, made, best }) => h("tr", {},
-            h("th", { scope: "row" }, name), h("td", {}, made), h("td", {}, best))))),
+    why.rows.length > 0 && table({ class: "signs" },
+        h("caption", { class: "heard" }, "What yours and the best leave"), ["", "Yours", "Best"],
+        why.rows.map(({ name, made, best }) => h("tr", {},
+            h("th", { scope: "row" }, name), h("td", {}, made), h("td", {}, best)))),
     why.throws && [
         h("p", {}, `Of the 36 next throws yours is worse after ${why.throws.worse}, better after ${
             why.throws.better || "none"}. Most is lost where ${why.throws.roll.join("-")} follows:`),
@@ -234,33 +224,25 @@ const named = (points) => points.join(" ");
 // The positions that are kept, in order, each with its own answer where that is known and not
 // hidden.
 export function kept(entries, answerTo, isHidden, act) {
-    const heads = ["Position", "Caption", "Pips", "Mean", "EPC", "Wastage"];
-    return h("table", { class: "kept" },
-        h("caption", { class: "heard" }, "Positions side by side"),
-        h("thead", {},
-            h("tr", {}, heads.map((head) => h("th", { scope: "col" }, head)), h("td", {}))),
-        h("tbody", {}, entries.map(({ points, caption }) => {
-            const key = points.join();
-            const answer = isHidden ? undefined : answerTo(points);
-            return h("tr", { "data-key": key },
-                h("td", {}, h("button", {
-                    type: "button", class: "show", "data-key": `show ${key}`,
-                    click: () => act.show(points),
-                    "aria-label": `Show ${named(points)} on the board`,
-                }, miniature(points))),
-                h("td", { class: "caption" }, h("span", { class: "printed" }, caption), h("input", {
-                    type: "text", value: caption, maxlength: 200, placeholder: "a caption",
-                    "data-key": `caption ${key}`, "aria-label": `A caption of ${named(points)}`,
-                    change: ({ target }) => act.caption(key, target.value),
-                })),
-                h("td", { "data-head": "Pips" }, answer?.standing ? answer.standing.pips : COMING),
-                answer?.refusal ? h("td", { colspan: 3 }, answer.refusal)
-                    : TOLD.map(([name, head]) =>
-                        h("td", { "data-head": head }, answer ? answer[name].text : COMING)),
-                h("td", {}, h("button", {
-                    type: "button", class: "remove", "data-key": `remove ${key}`,
-                    click: () => act.remove(key),
-                    "aria-label": `Remove ${named(points)}`,
-                }, h("span", { "aria-hidden": "true" }, "\u00d7"))));
-        })));
+    const heads = ["Position", "Caption", "Pips", "Mean", "EPC", "Wastage", ""];
+    const title = h("caption", { class: "heard" }, "Positions side by side");
+    return table({ class: "kept" }, title, heads, entries.map(({ points, caption }) => {
+        const key = points.join();
+        const answer = isHidden ? undefined : answerTo(points);
+        return h("tr", { "data-key": key },
+            h("td", {}, button(`show ${key}`, miniature(points), () => act.show(points),
+                { class: "show", "aria-label": `Show ${named(points)} on the board` })),
+            h("td", { class: "caption" }, h("span", { class: "printed" }, caption), h("input", {
+                type: "text", value: caption, maxlength: 200, placeholder: "a caption",
+                "data-key": `caption ${key}`, "aria-label": `A caption of ${named(points)}`,
+                change: ({ target }) => act.caption(key, target.value),
+            })),
+            h("td", { "data-head": "Pips" }, answer?.standing ? answer.standing.pips : COMING),
+            answer?.refusal ? h("td", { colspan: 3 }, answer.refusal)
+                : TOLD.map(([name, head]) =>
+                    h("td", { "data-head": head }, answer ? answer[name].text : COMING)),
+            h("td", {}, button(`remove ${key}`, h("span", { "aria-hidden": "true" }, "\u00d7"),
+                () => act.remove(key),
+                { class: "remove", "aria-label": `Remove ${named(points)}` })));
+    }));
 }

@@ -1,5 +1,6 @@
 // A picture of a position as a file: the small board, with a caption and the six counts below it.
-// Each shape has its colours with it, since a file has no style of the page's.
+// Each shape has its colours with it, since a file has no style of the page's. And how a file is
+// saved.
 import { lookedAt } from "./board.js";
 import { h } from "./tree.js";
 
@@ -80,4 +81,29 @@ export async function asPng(document, window, points, caption = "") {
     canvas.getContext("2d").drawImage(image, 0, 0, canvas.width, canvas.height);
     return new Promise((keep, refuse) => canvas.toBlob((blob) =>
         (blob ? keep(blob) : refuse(new Error("the browser drew nothing"))), "image/png"));
+}
+
+const SAVING = 60000; // milliseconds that a file is there for the browser to save
+
+// Saves a file by a name, which it answers.
+export function saveAs(document, window, file, name) {
+    const link = document.createElement("a");
+    link.href = window.URL.createObjectURL(file);
+    link.download = name;
+    link.click();
+    window.setTimeout(() => window.URL.revokeObjectURL(link.href), SAVING);
+    return name;
+}
+
+// Saves a picture of a position as a file, or says why it can't be.
+export async function savePicture(document, window, kind, points, caption) {
+    const told = document.getElementById("copied");
+    try {
+        const picture = kind === "png" ? await asPng(document, window, points, caption)
+            : new window.Blob([asSvg(points, caption)], { type: "image/svg+xml" });
+        const name = saveAs(document, window, picture, `bearoff-${points.join("-")}.${kind}`);
+        told.textContent = `The picture is saved as ${name}.`;
+    } catch (error) {
+        told.textContent = `The browser makes no such picture: ${error.message}.`;
+    }
 }

@@ -1,4 +1,4 @@
-// A position as six counts.
+// A position as six counts, and the rolls.
 
 export const MOST_CHECKERS = 15;
 
@@ -25,3 +25,9 @@ export function readPoints(text) {
     const points = counts.map(Number);
     return sumOf(points) <= MOST_CHECKERS ? points : null;
 }
+
+// Every roll, the higher die first.
+export const ROLLS = Array.from({ length: 6 }, (_, high) =>
+    Array.from({ length: high + 1 }, (_, low) => [high + 1, low + 1])).flat();
+
+export const sameRoll = (one, other) => Boolean(one && other && one.join() === other.join());

@@ -7,7 +7,7 @@ import { dicePicture, reasons } from "./panels.js";
 import { fittingLesson } from "./rooms.js";
 import { openedOf, reasonsFor, reviewed, signed } from "./state/reads.js";
 import { decimal } from "./texts.js";
-import { h } from "./tree.js";
+import { button, h } from "./tree.js";
 
 // What was answered, what is right, and how far that is apart.
 const cellsOf = ({ guess, estimate }) => (guess
@@ -48,11 +48,10 @@ export function review(state, act) {
                     h("span", { class: "which" }, place + 1), lookedAt(points, []),
                     h("span", {}, roll && dicePicture(roll)),
                     h("dl", {}, heads.map((head, at) => [h("dt", {}, head), h("dd", {}, cells[at])])),
-                    guess && !isRight && h("button", {
-                        type: "button", "data-key": `open ${place}`, "aria-expanded": String(isOpen),
-                        click: () => act.open(isOpen ? null : place),
-                        "aria-label": `Why, question ${place + 1}`,
-                    }, "Why")),
+                    guess && !isRight && button(`open ${place}`, "Why",
+                        () => act.open(isOpen ? null : place),
+                        { "aria-expanded": String(isOpen),
+                            "aria-label": `Why, question ${place + 1}` })),
                 isOpen && openedRow(row, state));
         })),
     ];

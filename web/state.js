@@ -2,7 +2,7 @@
 // plain object that stays as it is: each change makes a new one.
 import { dayOfTen, EMPTY } from "./memory.js";
 import { lessonOfDrill } from "./rooms.js";
-import { sameRoll } from "./rolls.js";
+import { sameRoll } from "./points.js";
 import { ADDITIONS, isMiss } from "./rules.js";
 import { AFRESH } from "./state/board.js";
 import {

@@ -1,5 +1,5 @@
 // What is shown to a student who comes back: today's ten, what was done, and what of it is kept.
-import { button, h } from "./tree.js";
+import { button, fault, h, table } from "./tree.js";
 import {
     BOXES, dueOn, isDoneOn, isKnown, ratingOf, SIZES, streak, todays, todaysEstimates, written,
 } from "./memory.js";
@@ -73,13 +73,10 @@ function themes({ themes: rows }) {
         h("th", { scope: "row" }, themeOf(name)?.words ?? ASKED[name]), h("td", {}, asked),
         h("td", {}, missed),
         h("td", {}, decimal(Math.round(lost / asked)), themeOf(name) ? "" : " pips"));
-    return h("table", {},
-        h("caption", { class: "heard" }, "What was asked of each theme"),
-        h("thead", {}, h("tr", {}, ["Theme", "asked", "missed", "lost each"]
-            .map((name) => h("th", { scope: "col" }, name)))),
-        h("tbody", {}, [true, false].flatMap((isPlay) =>
+    return table({}, h("caption", { class: "heard" }, "What was asked of each theme"),
+        ["Theme", "asked", "missed", "lost each"], [true, false].flatMap((isPlay) =>
             rows.filter(([name, asked]) => Boolean(themeOf(name)) === isPlay && asked > 0)
-                .sort((one, other) => each(other) - each(one)).map(row))));
+                .sort((one, other) => each(other) - each(one)).map(row)));
 }
 
 // All that is kept, and what can be done with it.
@@ -112,8 +109,7 @@ function all({ memory, isMemoryOpen, memoryFault, memoryTold }, act) {
             button("copy memory", "Copy the text", () => act.copyMemory()),
             button("take memory", "Take this text", () => act.takeMemory()),
             button("forget", "Forget all", () => act.forget())),
-        h("div", { role: "alert", id: "memory-why" },
-            memoryFault && h("p", { class: "trouble" }, memoryFault)),
+        fault("memory-why", memoryFault),
         h("p", { role: "status", class: "hint" }, memoryTold));
 }
 

@@ -6,7 +6,7 @@ import { COMING, dicePicture } from "./panels.js";
 import { classOf, readResults } from "./results.js";
 import { decimal } from "./texts.js";
 import { drillTitle } from "./training.js";
-import { button, fault, h } from "./tree.js";
+import { button, fault, h, table } from "./tree.js";
 
 // What a class did in a drill, by the texts that its pupils send back.
 function ofClass({ results: text }, act) {
@@ -27,17 +27,13 @@ function ofClass({ results: text }, act) {
         h("p", {}, button("show results", "Show", () => act.results())),
         fault("results-why", why),
         known && [
-            h("table", { class: "pupils" },
-                h("caption", {}, drillTitle(known.drill)),
-                h("thead", {}, h("tr", {}, heads.map((name) => h("th", { scope: "col" }, name)))),
-                h("tbody", {}, known.pupils.map(({ name, answered, missed, lost }) => h("tr", {},
+            table({ class: "pupils" }, h("caption", {}, drillTitle(known.drill)), heads,
+                known.pupils.map(({ name, answered, missed, lost }) => h("tr", {},
                     h("th", { scope: "row" }, name),
-                    [answered, missed, decimal(lost)].map((cell) => h("td", {}, cell)))))),
-            h("table", { class: "pupils questions" },
-                h("caption", {}, "Questions"),
-                h("thead", {}, h("tr", {}, ["Question", "missed", "What was played"].map((name) =>
-                    h("th", { scope: "col" }, name)))),
-                h("tbody", {}, known.questions.map(({ place, count, played }) => h("tr", {},
+                    [answered, missed, decimal(lost)].map((cell) => h("td", {}, cell))))),
+            table({ class: "pupils questions" }, h("caption", {}, "Questions"),
+                ["Question", "missed", "What was played"],
+                known.questions.map(({ place, count, played }) => h("tr", {},
                     h("th", { scope: "row" }, h("a", {
                         href: linkOf(known.drill, place), "data-key": `asked ${place}`,
                     }, `Question ${place + 1}`)),
@@ -45,7 +41,7 @@ function ofClass({ results: text }, act) {
                     h("td", {}, played.map(({ text: what, names, lost }) =>
                         `${what} (${lost === 0 ? "best" : `\u2212${decimal(lost)}`}): `
                             + names.join(", "))
-                        .join("; ") || "\u2013"))))),
+                        .join("; ") || "\u2013")))),
         ]);
 }
 

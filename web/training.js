@@ -4,7 +4,7 @@ import { lookedAt } from "./board.js";
 import { link } from "./link.js";
 import { COMING, dicePicture } from "./panels.js";
 import { comesBack, counted } from "./student.js";
-import { button, fault, h } from "./tree.js";
+import { button, fault, h, table } from "./tree.js";
 import { ASKED, askedFor, drillName, ESTIMATED, mostOf, TEN, WANTED } from "./questions.js";
 import { wordsIn } from "./rooms.js";
 import { isMiss, OWN, WEIGHTS } from "./rules.js";
@@ -297,12 +297,8 @@ export function rules(state, act) {
         change: ({ target }) => act.weigh(place, target.value),
     }));
     return [
-        h("table", { class: "worth" },
-            h("caption", {}, "What each rule is worth"),
-            h("thead", {},
-                h("tr", {}, ["Rule", ...heads].map((name) => h("th", { scope: "col" }, name)))),
-            h("tbody", {}, (told?.rows || []).filter(({ name }) => name !== OWN || rule === OWN)
-                .map(row))),
+        table({ class: "worth" }, h("caption", {}, "What each rule is worth"), ["Rule", ...heads],
+            (told?.rows || []).filter(({ name }) => name !== OWN || rule === OWN).map(row)),
         h("p", { class: "hint" }, told && told.count > 0
             ? `Errors in pips: the mean over the positions that a rule is for, the mean over all ${
                 told.count.toLocaleString("en")} of the open database, and the greatest.` : COMING),

@@ -15,6 +15,12 @@ export function h(tag, attributes = {}, ...children) {
 export const button = (key, text, click, more = {}) =>
     h("button", { type: "button", "data-key": key, click, ...more }, text);
 
+// A table: its attributes, its caption, the name of each column, which may be none, and its rows.
+export const table = (words, caption, heads, rows) => h("table", words, caption,
+    h("thead", {}, h("tr", {}, heads.map((name) =>
+        (name ? h("th", { scope: "col" }, name) : h("td", {}))))),
+    h("tbody", {}, rows));
+
 // Beside a field, why what was typed there can't be taken; it is heard once it comes.
 export const fault = (id, words) =>
     h("div", { role: "alert", id }, words && h("p", { class: "trouble" }, words));

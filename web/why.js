@@ -3,8 +3,7 @@
 // No count is called the better one: in a close decision fewer gaps, fewer checkers on the ace point
 // and lower stacks are the worse play's nearly as often as the best one's.
 import { playFrom } from "./answers.js";
-import { pipsOf, sumOf } from "./points.js";
-import { ROLLS } from "./rolls.js";
+import { pipsOf, ROLLS, sumOf } from "./points.js";
 import { decimal, percent } from "./texts.js";
 
 const POINTS = [6, 5, 4, 3, 2, 1];

@@ -2,7 +2,7 @@
 import { Database } from "../js/database.js";
 import { BearoffError } from "../js/errors.js";
 import { chancesOf, choicesOf, playsOf, roundedOf } from "./answers.js";
-import { ROLLS } from "./rolls.js";
+import { ROLLS } from "./points.js";
 import { measured } from "./rules.js";
 import { REFUSALS } from "./texts.js";
 import { positions } from "./themes.js";
@@ -42,8 +42,8 @@ export function drawn(database, drill) {
         ? [] : drawQuestions(drill, ROLLS, (points, roll) => choicesOf(database, points, roll));
 }
 
-// What is right in each question of a drill: its best play, with what the next best loses, or the
-// number that is asked.
+// What is right in each question of a drill: its best play, with what the next best loses, or that
+// it is the only one, as a list may have it; or the number that is asked.
 const keyOf = (database, { ask }, questions) => questions.map(({ points, roll }) => {
     if (!roll) {
         const { standing, effective, wastage } = answer(database, points);
@@ -52,7 +52,7 @@ const keyOf = (database, { ask }, questions) => questions.map(({ points, roll })
     const plays = playsOf(database, points, roll);
     const next = plays.find(({ isBest }) => !isBest);
     return `${plays.find(({ isRecorded }) => isRecorded).text}${
-        next ? `; the next loses ${next.lossText}` : ""}`;
+        next ? `; the next loses ${next.lossText}` : plays.length === 1 ? ": the only play" : ""}`;
 });
 
 // A sheet of a drill: its questions, and the key.

@@ -73,6 +73,19 @@ class Program {
     }
 }
 
+// In a page: what is seen by each word.
+const look = (words) => words.map((word) => {
+    const [, how, selector = word] = /^(count|all|hidden|value|keys) (.*)$/s.exec(word) || [];
+    const { activeElement } = document;
+    if (word === "focus") return activeElement.getAttribute("data-key") || activeElement.id;
+    if (word === "hash") return location.hash;
+    const all = [...document.querySelectorAll(selector)];
+    return {
+        count: all.length, all: all.map((one) => one.textContent), hidden: all[0]?.hidden ?? true,
+        value: all[0]?.value, keys: all.map((one) => one.dataset.key),
+    }[how] ?? (how ? null : all[0]?.textContent ?? null);
+});
+
 // What both have of a page.
 class AnyPage {
     // Waits until an expression is true, and says for how many milliseconds.
@@ -85,9 +98,23 @@ class AnyPage {
         return performance.now() - start;
     }
 
+    // Waits for an element, or for one that has no dots of what isn't known yet.
+    there(selector, most) { return this.until(`document.querySelector(${JSON.stringify(selector)})`, most); }
+
+    known(selector) {
+        return this.until(`((all) => all.length > 0 && all.every(({ textContent }) => !textContent.includes("\u2026")))(
+            [...document.querySelectorAll(${JSON.stringify(selector)})])`);
+    }
+
+    // What is seen, each by a word: the focus, the address, what there is of a selector, and else its text.
+    look(words) { return this.value(`(${look})(${JSON.stringify(words)})`); }
+
+    // A click that a script makes, where an element stands or not.
+    poke(selector) { return this.value(`document.querySelector(${JSON.stringify(selector)}).click()`); }
+
     // Where the middle of an element is, in the window.
     async middle(selector) {
-        await this.until(`document.querySelector(${JSON.stringify(selector)})`);
+        await this.there(selector);
         return this.value(`(() => {
             const box = document.querySelector(${JSON.stringify(selector)}).getBoundingClientRect();
             return { x: Math.round(box.x + box.width / 2), y: Math.round(box.y + box.height / 2) };
@@ -96,7 +123,7 @@ class AnyPage {
 
     // Brings an element into sight, once it is there, and says where its middle is.
     async aim(selector) {
-        await this.until(`document.querySelector(${JSON.stringify(selector)})`);
+        await this.there(selector);
         return this.value(`(() => {
             const element = document.querySelector(${JSON.stringify(selector)});
             element.scrollIntoView({ block: "center", behavior: "instant" });
@@ -361,7 +388,7 @@ class FirefoxPage extends AnyPage {
     }
 
     async click(selector, { shift = false, button = "left" } = {}) {
-        await this.until(`document.querySelector(${JSON.stringify(selector)})`);
+        await this.there(selector);
         await this.value(`document.querySelector(${JSON.stringify(selector)}).scrollIntoView({ block: "center", behavior: "instant" })`);
         const { value } = await this.browser.send("WebDriver:FindElement", { using: "css selector", value: selector });
         const which = button === "right" ? 2 : 0;

@@ -1,15 +1,13 @@
 // What the page's script draws, and what it reads from an address, under node.
 import { board, lookedAt, miniature, placeUnder, played, watched } from "../../web/board.js";
 import { abilities } from "../../js/abilities.js";
-import { Client } from "../../web/client.js";
+import { Bar, Client, reached } from "../../web/client.js";
 import { decimal, notation, percent } from "../../web/texts.js";
 import { MOST_KEPT, readLink, START, writeLink } from "../../web/link.js";
-import { readPoints } from "../../web/points.js";
+import { readPoints, ROLLS } from "../../web/points.js";
 import { chances, dicePicture, die, kept, numbers } from "../../web/panels.js";
 import { asSvg, linesOf } from "../../web/picture.js";
-import { Bar, reached } from "../../web/progress.js";
 import { followingOf, kindsOf, numbersFrom } from "../../web/questions.js";
-import { ROLLS } from "../../web/rolls.js";
 import { byLoss } from "../../web/state/reads.js";
 import { build, draw, h, textOf } from "../../web/tree.js";
 import { Browser } from "./browser.mjs";

@@ -27,7 +27,18 @@ let browserName = "";
 
 const wrong = (text) => fault(`in ${browserName}: ${text}`);
 const equal = (name, is, wanted) => same(`in ${browserName}: ${name}`, is, wanted);
-const FOCUS = 'document.activeElement.getAttribute("data-key") || document.activeElement.id';
+// Each word shows what is wanted in an open page, or what matches it.
+async function sees(page, name, wanted) {
+    const words = Object.keys(wanted);
+    for (const [place, is] of (await page.look(words)).entries()) {
+        const want = wanted[words[place]];
+        equal(`${name}: ${words[place]}`, is, !(want instanceof RegExp) ? want : want.test(is) ? is : want.source);
+    }
+}
+// A key of the page as a selector, and a position in its field.
+const keyed = (key) => `[data-key="${key}"]`;
+const focusOn = (page, selector) => page.value(`document.querySelector(${JSON.stringify(selector)}).focus()`);
+const press = async (page, ...keys) => { for (const key of keys) await page.key(key); };
 const wait = (milliseconds) => new Promise((keep) => setTimeout(keep, milliseconds));
 
 const pipsOf = (position) => position.split(",").reduce((sum, count, place) => sum + count * (place + 1), 0);
@@ -131,39 +142,53 @@ async function compare(page, name, position) {
 // Every roll's best play is the recorded one with the loss of the next best, and the chosen roll's
 // plays are those of the program.
 async function compareRolls(page, position) {
-    await page.until('document.querySelector(".rolls .next")');
+    await page.there(".rolls .next");
     const rolls = await page.value(`[...document.querySelectorAll(".rolls button")].map((roll) =>
         [roll.dataset.key.slice(5), roll.querySelector(".best").textContent, roll.querySelector(".next").textContent])`);
     equal("how many rolls", rolls.length, 21);
     for (const [roll, text, next] of rolls) {
-        equal(`the best play of ${roll}`, effectOf(text),
-            effectOf(ask(`play ${position} ${roll}`).split(" to ")[0].slice(5)));
+        equal(`the best play of ${roll}`, effectOf(text), effectOf(ask(`play ${position} ${roll}`).split(" to ")[0].slice(5)));
         equal(`${text} as players write it`, isJoined(text), true);
-        const losses = ask(`moves ${position} ${roll}`).split(" ").slice(1)
-                .map((word) => word.split(":")[1].split("/").map(BigInt))
-            .map(([above, below]) => (2000n * above + below) / (2n * below)).sort((one,
-                    other) => (one < other ? -1 : one > other ? 1 : 0));
+        const losses = lossesOf(position, roll).map(over).map(([above, below]) => (2000n * above + below) / (2n * below))
+            .sort((one, other) => (one < other ? -1 : one > other ? 1 : 0));
         equal(`the next best of ${roll}`, next, losses.length === 1 ? "only play"
-                : `then \u2212${(Number(losses[1]) / 1000).toFixed(3)}`);
+            : `then \u2212${(Number(losses[1]) / 1000).toFixed(3)}`);
     }
-    await page.click('[data-key="roll 31"]');
-    await page.until('document.querySelector(".plays")');
-    const costs = await page.value('[...document.querySelectorAll("#plays .cost")].map((cost) => cost.title.split(" ")[0])');
-    equal("what the plays of 31 lose", costs,
-        ask(`moves ${position} 31`).split(" ").slice(1).map((word) => word.split(":")[1]));
-    equal("arcs on the board", await page.value('document.querySelectorAll("#board .arc").length'), 2);
+    await page.click(keyed("roll 31"));
+    await page.there(".plays");
+    const costs = await costsOf(page);
+    equal("what the plays of 31 lose", costs, lossesOf(position, "31"));
+    await sees(page, "arcs", { "count #board .arc": 2 });
     await page.click(".plays button:last-child");
     // a long fraction is told as a decimal
     const [loss] = (await page.value('document.querySelector(".plays button:last-child .cost").title')).split(" ");
-    const toldLoss = (await page.value('document.querySelector(".loss").textContent'))
-            .match(/ loses (\S+) of a roll/)?.[1];
+    await page.known(".loss");
+    const [told] = await page.look([".loss"]);
+    const toldLoss = told.match(/ loses (\S+) of a roll/)?.[1];
     equal("exactly", loss.length <= 24 ? toldLoss : /^\d\.\d{3}$/.test(toldLoss) && loss, loss);
-    await page.until('!document.querySelector(".loss").textContent.includes("\u2026")');
-    const [above, below] = costs.at(-1).split("/").map(BigInt);
-    const lost = (Number((2n * 49000n * above + 6n * below) / (12n * below)) / 1000).toFixed(3);
-    equal("in EPC", (await page.value('document.querySelector(".loss").textContent')).split(", ")[1] ?? "nothing",
-        above === 0n ? "nothing" : `${lost} pips of EPC.`);
+    const last = over(costs.at(-1));
+    equal("in EPC", told.split(", ")[1] ?? "nothing", last[0] === 0n ? "nothing" : `${inPips(last)} pips of EPC.`);
 }
+
+// Sets a position in the field.
+async function giveCounts(page, position) {
+    await page.click("#counts");
+    await page.value('document.getElementById("counts").select()');
+    await page.value(`document.execCommand("insertText", false, ${JSON.stringify(position)})`);
+    await page.key("Enter");
+}
+
+// What the plays of the chosen roll lose, as the page has it, and as the program has it.
+const costsOf = (page) =>
+    page.value('[...document.querySelectorAll("#plays .cost")].map((cost) => cost.title.split(" ")[0])');
+const movesOf = (position, roll) => ask(`moves ${position} ${roll}`).split(" ").slice(1).map((word) => word.split(":"));
+const lossesOf = (position, roll) => movesOf(position, roll).map(([, loss]) => loss);
+
+// A fraction, a sum of some with one more, and one in thousandths, to the nearest.
+const over = (fraction) => fraction.split("/").map(BigInt);
+const added = ([one, whole], more) => [over(more)].map(([above, below]) => [one * below + above * whole, whole * below])[0];
+const rounded = ([above, below]) => (Number((2000n * above + below) / (2n * below)) / 1000).toFixed(3);
+const inPips = ([above, below]) => rounded([49n * above, 6n * below]);
 
 // The bars are as long as the chances beside them.
 async function compareBars(page) {
@@ -179,38 +204,37 @@ async function compareBars(page) {
 async function driveBoard(browser) {
     const page = await browser.open(`${address}#at=2,2,2,2,2,2`, { before: WATCH });
     await page.until(READY);
-    const [isMouse,
-        how] = await page.value('[matchMedia("(hover: hover)").matches, document.getElementById("how").innerText]');
+    const isMouse = await page.value('matchMedia("(hover: hover)").matches');
+    const how = await page.value('document.getElementById("how").innerText');
     equal("how a point is set", how.startsWith(isMouse ? "Click" : "Tap"), true);
     if (browser.name === "Chromium") equal("with a mouse", isMouse, true);
     await compare(page, "the first position", "2,2,2,2,2,2");
     await compareBars(page);
     await compareRolls(page, "2,2,2,2,2,2");
-    await page.click('[data-key="clear"]');
+    await page.click(keyed("clear"));
     await page.until('document.getElementById("counts").value === "0,0,0,0,0,0"');
-    for (const point of [6, 6, 4]) await page.click(`[data-key="point ${point}"]`);
+    for (const point of [6, 6, 4]) await page.click(keyed(`point ${point}`));
     await compare(page, "set up by clicks", "0,0,0,1,0,2");
-    await page.click('[data-key="point 6"]', { shift: true });
-    await page.click('[data-key="Add 1"]');
-    await page.click('[data-key="Remove 4"]');
+    await page.click(keyed("point 6"), { shift: true });
+    await page.click(keyed("Add 1"));
+    await page.click(keyed("Remove 4"));
     await compare(page, "changed by clicks", "1,0,0,0,0,1");
-    await page.click('[data-key="point 1"]', { button: "right" });
+    await page.click(keyed("point 1"), { button: "right" });
     await compare(page, "a right-click", "0,0,0,0,0,1");
-    await page.value('document.querySelector(\'[data-key="point 5"]\').focus()');
-    for (const key of ["4", "ArrowLeft", "ArrowUp", "ArrowRight", "ArrowRight", "3", "ArrowDown"]) await page.key(key);
+    await focusOn(page, keyed("point 5"));
+    await press(page, "4", "ArrowLeft", "ArrowUp", "ArrowRight", "ArrowRight", "3", "ArrowDown");
     await compare(page, "set up by keyboard", "0,0,0,2,4,2");
-    await page.click('[data-key="clear"]');
-    await page.value('document.querySelector(\'[data-key="point 1"]\').focus()');
-    for (const key of ["1", "2"]) await page.key(key);
+    await page.click(keyed("clear"));
+    await focusOn(page, keyed("point 1"));
+    await press(page, "1", "2");
     await compare(page, "two digits", "12,0,0,0,0,0");
     await page.click("#counts");
-    await page.value('document.getElementById("counts").select()');
-    for (const key of ["9", " ", "9", "Enter"]) await page.key(key);
-    await page.until('!document.getElementById("why").hidden');
-    equal("why not", await page.value('document.getElementById("why").textContent'),
-        "Six counts are wanted, and here are 2.");
-    await page.value('document.getElementById("counts").select()');
-    for (const key of ["0", " ", "0", " ", "0", " ", "4", " ", "4", " ", "1", "Enter"]) await page.key(key);
+    for (const text of ["9 9", "0 0 0 4 4 1"]) {
+        await page.value('document.getElementById("counts").select()');
+        await press(page, ...text, "Enter");
+        await page.until(`document.getElementById("why").hidden === ${text !== "9 9"}`);
+        await sees(page, "why not", { "#why": text === "9 9" ? "Six counts are wanted, and here are 2." : "" });
+    }
     await compare(page, "nine checkers", "0,0,0,4,4,1");
     await compareRolls(page, "0,0,0,4,4,1");
     equal("nothing went wrong", page.troubles(), []);
@@ -242,30 +266,28 @@ async function driveKeyboard(browser) {
     const page = await browser.open(`${address}#at=0,0,0,1,0,1&p=1,0,0,0,0,0&p=2,0,0,0,0,0`);
     await page.until(`${READY} && document.querySelector(".rolls .next")`);
     const go = async (from, keys) => {
-        await page.value(`document.querySelector(${JSON.stringify(from)}).focus()`);
+        await focusOn(page, from);
         const path = [];
         for (const key of keys) {
             await page.key(key);
             await wait(50);
-            path.push(await page.value(FOCUS));
+            path.push(...await page.look(["focus"]));
         }
         return path;
     };
     const plays = ask("moves 0,0,0,1,0,1 21").split(" ").length - 1;
-    const path = await go("#guess", ["Tab", "ArrowRight", "ArrowRight", "ArrowLeft", "Enter", "Tab", "End", "Tab",
-            "Enter"]);
-    const texts = path.map((key) => (key.startsWith("play ") ? "play" : key));
-    equal("where keys lead", texts, ["roll 11", "roll 21", "roll 22", "roll 21", "roll 21", "play", "play", "onward",
-            "roll 21"]);
+    const path = await go("#guess", ["Tab", "ArrowRight", "ArrowRight", "ArrowLeft", "Enter", "Tab", "End", "Tab", "Enter"]);
+    equal("where keys lead", path.map((key) => (key.startsWith("play ") ? "play" : key)),
+        ["roll 11", "roll 21", "roll 22", "roll 21", "roll 21", "play", "play", "onward", "roll 21"]);
     equal("to the first and the last play", path[5] !== path[6], plays > 1);
     await page.until(`document.getElementById("counts").value === "${ask("play 0,0,0,1,0,1 21").split(" to ")[1]}"`);
     equal("Keep", await go("#keep", ["Enter"]), ["keep"]);
-    equal("kept", await page.value('document.querySelectorAll(".kept tbody tr").length'), 3);
-    equal("Escape", (await go('[data-key="roll 31"]', ["Enter", "Tab", "Escape"])).map((key) => key.split(" ")[0]),
+    await sees(page, "kept", { "count .kept tbody tr": 3 });
+    equal("Escape", (await go(keyed("roll 31"), ["Enter", "Tab", "Escape"])).map((key) => key.split(" ")[0]),
         ["roll", "play", "roll"]);
-    await page.until('![...document.querySelectorAll(".kept td[data-head]")].some((cell) => cell.textContent === "\u2026")');
-    const rows = await page.value('[...document.querySelectorAll(".kept .remove")].map((button) => button.dataset.key)');
-    equal("Remove", await go(`[data-key="${rows[0]}"]`, ["Enter", "Enter", "Enter"]), [rows[1], rows[2], "keep"]);
+    await page.known(".kept td[data-head]");
+    const [rows] = await page.look(["keys .kept .remove"]);
+    equal("Remove", await go(keyed(rows[0]), ["Enter", "Enter", "Enter"]), [rows[1], rows[2], "keep"]);
     equal("nothing went wrong", page.troubles(), []);
 }
 
@@ -273,37 +295,25 @@ async function driveKeyboard(browser) {
 async function drivePasted(browser) {
     const page = await browser.open(`${address}#at=1,0,0,0,0,0`);
     await page.until(`${READY} && ${KNOWN}`);
-    const give = async (text) => {
-        await page.click("#counts");
-        await page.value('document.getElementById("counts").select()');
-        await page.value(`document.execCommand("insertText", false, ${JSON.stringify(text)})`);
-        await page.key("Enter");
-    };
     const told = JSON.parse(readFileSync(new URL("../callers/notation_texts.json", import.meta.url), "utf8"));
     const dice = told.read.filter(([text, points, , roll]) => roll && pipsOf(points.join()) > 0
-            && pipsOf(points.join()) <= 44 && /^(XGID|Position|GNU|[A-Za-z0-9+/]{14}:)/.test(text));
+        && pipsOf(points.join()) <= 44 && /^(XGID|Position|GNU|[A-Za-z0-9+/]{14}:)/.test(text));
     for (const [text, points, , roll] of [...dice.slice(0, 3), ...dice.slice(-3)]) {
-        await give(text);
+        await giveCounts(page, text);
         await compare(page, text, points.join());
-        await page.until('document.querySelector(".plays")');
-        equal(`the roll of ${text}`,
-            await page.value('document.querySelector(".rolls [aria-pressed=true]").dataset.key'),
-            `roll ${roll.join("")}`);
-        equal(`its plays`,
-            await page.value('[...document.querySelectorAll("#plays .cost")].map((cost) => cost.title.split(" ")[0])'),
-            ask(`moves ${points.join()} ${roll.join("")}`).split(" ").slice(1).map((word) => word.split(":")[1]));
+        await page.there(".plays");
+        await sees(page, text, { "keys .rolls [aria-pressed=true]": [`roll ${roll.join("")}`] });
+        equal("its plays", await costsOf(page), lossesOf(points.join(), roll.join("")));
     }
-    const at = await page.value('document.getElementById("counts").value');
+    const [at] = await page.look(["value #counts"]);
     for (const code of ["outside", "contact", "bar", "other-side", "too-many", "malformed"]) {
         const [text, , line] = told.refused.find(([given, is]) => is === code && given.startsWith("XGID="))
             || told.refused.find(([given, is]) => is === code && /[A-Za-z]{3}/.test(given));
-        await give(text);
+        await giveCounts(page, text);
         await page.until('!document.getElementById("why").hidden');
-        equal(`${code}, in words`, await page.value('document.getElementById("why").textContent'),
-            `This is no bearoff race: ${line}`);
+        await sees(page, `${code}, in words`, { "#why": `This is no bearoff race: ${line}` });
         equal(`${code}: the board stays`, (await page.value(SHOWN)).values, at);
-        await page.value('document.getElementById("counts").select()');
-        await give(at);
+        await giveCounts(page, at);
         await page.until('document.getElementById("why").hidden');
     }
     equal("nothing went wrong", page.troubles(), []);
@@ -311,19 +321,16 @@ async function drivePasted(browser) {
 
 async function driveGuess(page) {
     await page.click("#guess");
-    await page.click('[data-key="roll 21"]');
-    await page.until('document.querySelector(".plays")');
-    equal("a guess hides the best play", await page.value('document.querySelector("#grid").textContent.includes("/")'),
-        false);
-    equal("a guess shows no arc", await page.value('document.querySelectorAll(".arc").length'), 0);
-    equal("a guess tells no loss", await page.value('document.querySelectorAll("#plays .cost").length'), 0);
+    await page.click(keyed("roll 21"));
+    await page.there(".plays");
+    await sees(page, "a guess hides the best play, its arcs and its loss", { "#grid": /^[^/]*$/, "count .arc": 0,
+        "count #plays .cost": 0 });
     await page.click(".plays button:last-child");
-    await page.until('document.querySelector(".verdict") && !document.querySelector(".verdict").textContent.includes("\u2026")');
-    const verdict = await page.value('document.querySelector(".verdict p").textContent');
+    await page.known(".verdict");
+    const [verdict, said] = await page.look([".verdict p", "#said"]);
     /One guess has lost \d+\.\d{3} of a roll\./.test(verdict) || wrong(`the verdict: ${verdict}`);
-    const said = await page.value('document.getElementById("said").textContent');
     verdict.startsWith(said) || wrong(`said is ${said}, and the verdict ${verdict}`);
-    await page.click('[data-key="reset"]');
+    await page.click(keyed("reset"));
     await page.until('document.querySelector("#plays h3").textContent.includes("Which play is best?")');
     await page.click("#guess");
 }
@@ -332,24 +339,20 @@ async function driveGuess(page) {
 async function driveSum(browser) {
     const page = await browser.open(`${address}#at=0,0,0,1,0,1&guess=1&p=0,0,0,1,0,0&p=1,1,0,0,0,0`);
     await page.until(`${READY} && document.querySelector(".rolls button")`);
-    equal("the kept numbers are hidden",
-        await page.value('[...new Set([...document.querySelectorAll(".kept td[data-head]")].map((cell) => cell.textContent))]'), ["\u2026"]);
+    await sees(page, "the kept numbers are hidden", { "all .kept td[data-head]": Array(8).fill("\u2026") });
     let sum = [0n, 1n];
     for (const roll of ["52", "61", "41"]) {
-        await page.click(`[data-key="roll ${roll}"]`);
-        await page.until('document.querySelector(".plays")');
-        const text = await page.value('document.querySelector(".plays button:last-child .moves").textContent');
+        await page.click(keyed(`roll ${roll}`));
+        await page.there(".plays");
+        const [text] = await page.look([".plays button:last-child .moves"]);
         await page.click(".plays button:last-child");
-        await page.until('document.querySelector(".verdict") && !document.querySelector(".verdict").textContent.includes("\u2026")');
-        const [above, below] = (await page.value(`document.querySelector('[data-key="play ${text}"] .cost').title`))
-                .split(" ")[0].split("/").map(BigInt);
-        sum = [sum[0] * below + above * sum[1], sum[1] * below];
+        await page.known(".verdict");
+        const [title] = (await page.value(`document.querySelector('${keyed(`play ${text}`)} .cost').title`)).split(" ");
+        sum = added(sum, title);
     }
-    const told = (await page.value('document.querySelector(".verdict p").textContent')).match(/Exactly: (\d+)\/(\d+)/);
-    equal("the sum of three losses", told ? BigInt(told[1]) * sum[1] === BigInt(told[2]) * sum[0] : sum[0] === 0n,
-        true);
-    equal("then the kept numbers are there",
-        await page.value('document.querySelector(".kept").textContent.includes("\u2026")'), false);
+    const told = (await page.look([".verdict p"]))[0].match(/Exactly: (\d+)\/(\d+)/);
+    equal("the sum of three losses", told ? BigInt(told[1]) * sum[1] === BigInt(told[2]) * sum[0] : sum[0] === 0n, true);
+    await sees(page, "then the kept numbers are there", { ".kept": /^[^\u2026]*$/ });
 }
 
 // A machine on which the first build takes so many milliseconds, as the page is told. The second
@@ -386,100 +389,86 @@ const SLOW = machine(60000);
 const NO_MEMORY = 'WebAssembly.instantiate = async () => { throw new RangeError("could not allocate memory"); }; WebAssembly.Instance = class { constructor() { throw new RangeError("could not allocate memory"); } };';
 const WORKERS = "workers.map(({ asked, isEnded }) => [asked[0], Boolean(isEnded)])";
 
-// Sets a position in the field.
-async function giveCounts(page, position) {
-    await page.click("#counts");
-    await page.value('document.getElementById("counts").select()');
-    await page.value(`document.execCommand("insertText", false, ${JSON.stringify(position)})`);
-    await page.key("Enter");
-}
-
 // The database of 90 pips: unasked and unseen on a fast machine, where something needs it on a slow one, and where it
 // can't be had the first one goes on. Each number on the way is the program's.
 async function driveWider(browser) {
     const [near, far] = ["2,2,2,2,2,1", "0,0,0,3,5,7"];
-    const SHOWS = '[document.getElementById("open").textContent, document.getElementById("bar").hidden, document.getElementById("trouble").hidden, !document.getElementById("wider")]';
-    const isOpen = (page, bound) => page.until(`document.getElementById("open").textContent === "${bound} pips"`,
-        60000);
+    const shows = (page, name, open, hidden = {}) => sees(page, name, { "#open": open, "count #trouble": 1,
+        "hidden #bar": true, "hidden #trouble": true, "hidden #wider": true, ...hidden });
+    const isOpen = (page, bound) => page.until(`document.getElementById("open").textContent === "${bound} pips"`, 60000);
+    const open = async (hash, how, what = `${READY} && ${KNOWN} && document.querySelector(".rolls .next")`) => {
+        const page = await browser.open(address + hash, { before: machine(...how) + WATCH });
+        await page.until(what);
+        return page;
+    };
+    const give = async (page, name, position) => {
+        await giveCounts(page, position);
+        await compare(page, name, position);
+    };
 
     // a fast machine, whose second build takes its time so that it is met
-    const fast = await browser.open(`${address}#at=2,2,2,2,2,2&roll=31`,
-        { before: machine(500, { late: 1200 }) + WATCH });
-    await fast.until(`${READY} && ${KNOWN} && document.querySelector(".plays")`);
-    equal("fast: the first number comes of 44 pips", await fast.value(SHOWS), ["44 pips", true, true, true]);
+    const fast = await open("#at=2,2,2,2,2,2&roll=31", [500, { late: 1200 }]);
+    await shows(fast, "fast: the first number comes of 44 pips", "44 pips");
     await fast.until("workers.length === 2", 5000);
     equal("fast: what is asked", await fast.value(WORKERS), [["start 44", false], ["start 90", false]]);
-    await giveCounts(fast, near);
-    await compare(fast, "fast: while 90 pips are built", near);
-    equal("fast: nothing is said of it", await fast.value(SHOWS), ["44 pips", true, true, true]);
+    await give(fast, "fast: while 90 pips are built", near);
+    await shows(fast, "fast: nothing is said of it", "44 pips");
     await fast.value('window.before = document.querySelector("main").innerHTML');
     await isOpen(fast, 90);
-    equal("fast: nothing changes with it", await fast.value('document.querySelector("main").innerHTML === before'),
-        true);
+    equal("fast: nothing changes with it", await fast.value('document.querySelector("main").innerHTML === before'), true);
     equal("fast: one worker is left", (await fast.value(WORKERS)).map(([, isEnded]) => isEnded), [true, false]);
-    await giveCounts(fast, far);
-    await compare(fast, "fast: 79 pips", far);
+    await give(fast, "fast: 79 pips", far);
     await compareRolls(fast, far);
-    equal("fast: the address", await fast.value("location.hash.includes('pips')"), false);
+    await sees(fast, "fast: the address", { hash: /^(?!.*pips)/ });
     await compareWatched(fast, "fast", 2);
 
     // a slow one: nothing is built that nothing needs
-    const slow = await browser.open(`${address}#at=2,2,2,2,2,2`, { before: machine(5000, { late: 2500 }) + WATCH });
-    await slow.until(`${READY} && ${KNOWN} && document.querySelector(".rolls .next")`);
+    const slow = await open("#at=2,2,2,2,2,2", [5000, { late: 2500 }]);
     await wait(500);
     equal("slow: not unasked", await slow.value(WORKERS), [["start 44", false]]);
     await giveCounts(slow, far);
     await slow.until("workers.length === 2 && !document.getElementById('bar').hidden");
-    equal("slow: it says so",
-        await slow.value(`[document.querySelector("#numbers .hint").textContent, document.getElementById("said").textContent, ${SHOWS}].flat()`),
-        ["The database of 90 pips is being built for it.", "79 pips: the database of 90 pips is being built.",
-            "44 pips", false, true, true]);
+    await shows(slow, "slow: it says so", "44 pips", { "hidden #bar": false,
+        "#numbers .hint": "The database of 90 pips is being built for it.",
+        "#said": "79 pips: the database of 90 pips is being built." });
     equal("slow: nothing is known yet", (await slow.value(SHOWN)).figures, ["79", "\u2026", "\u2026", "\u2026"]);
-    await giveCounts(slow, near);
-    await compare(slow, "slow: the first answers meanwhile", near);
-    equal("slow: and nothing waits", await slow.value(SHOWS), ["44 pips", true, true, true]);
+    await give(slow, "slow: the first answers meanwhile", near);
+    await shows(slow, "slow: and nothing waits", "44 pips");
     await giveCounts(slow, far);
     await slow.until("!document.getElementById('bar').hidden");
-    await slow.value('document.getElementById("keep").click()');
+    await slow.poke("#keep");
     await isOpen(slow, 90);
     await compare(slow, "slow: 79 pips", far);
-    await slow.until('!document.querySelector(".kept").textContent.includes("\u2026")');
-    equal("slow: done", await slow.value(SHOWS), ["90 pips", true, true, true]);
+    await slow.known(".kept");
+    await shows(slow, "slow: done", "90 pips");
     await compareWatched(slow, "slow", 2);
 
     // what needs it from the first: one build alone
-    const linked = await browser.open(`${address}#at=${far}`, { before: machine(5000) + WATCH });
-    await linked.until(`${READY} && ${KNOWN}`);
+    const linked = await open(`#at=${far}`, [5000], `${READY} && ${KNOWN}`);
     await compare(linked, "a link to 79 pips", far);
     equal("a link to 79 pips builds once", await linked.value(WORKERS), [["start 90", false]]);
 
     // no memory for it: unasked it is silent, and where it is needed it is said; then it is tried again by its button
-    for (const [what, prefix] of [["no memory", NO_MEMORY],
-            ["a worker that dies",
-        "setTimeout(() => { throw new Error('gone'); }, 0); self.onmessage = () => {}; Object.defineProperty(self, 'onmessage', { set() {} });"]]) {
-        const page = await browser.open(`${address}#at=2,2,2,2,2,2`, { before: machine(500, { bad: 2, prefix }) + WATCH });
-        await page.until(`${READY} && ${KNOWN} && document.querySelector(".rolls .next")`);
-        await page.until("workers.length === 2 && workers[1].isEnded",
-            5000).catch(() => wrong(`${what}: the second worker isn't let go`));
-        equal(`${what}: in silence`, [await page.value(SHOWS), await page.value(WORKERS)],
-            [["44 pips", true, true, true], [["start 44", false], ["start 90", true]]]);
-        await giveCounts(page, near);
-        await compare(page, `${what}: the first answers`, near);
+    for (const [what, prefix] of [["no memory", NO_MEMORY], ["a worker that dies", "setTimeout(() => { throw new Error('gone'); }, "
+        + "0); self.onmessage = () => {}; Object.defineProperty(self, 'onmessage', { set() {} });"]]) {
+        const page = await open("#at=2,2,2,2,2,2", [500, { bad: 2, prefix }]);
+        await page.until("workers.length === 2 && workers[1].isEnded", 5000)
+            .catch(() => wrong(`${what}: the second worker isn't let go`));
+        await shows(page, `${what}: in silence`, "44 pips");
+        equal(`${what}: its workers`, await page.value(WORKERS), [["start 44", false], ["start 90", true]]);
+        await give(page, `${what}: the first answers`, near);
         await giveCounts(page, far);
         await page.until("!document.getElementById('trouble').hidden");
-        const told = await page.value('document.getElementById("trouble").textContent');
-        (told.startsWith("The database of 90 pips couldn\u2019t be built: ")
-                && told.endsWith(" That of 44 pips goes on.")) || wrong(`${what}: it says ${told}`);
-        equal(`${what}: where it is needed`, await page.value(SHOWS), ["44 pips", true, false, false]);
-        await giveCounts(page, near);
-        await compare(page, `${what}: the first still answers`, near);
+        await shows(page, `${what}: where it is needed`, "44 pips", { "hidden #trouble": false, "hidden #wider": false,
+            "#trouble": /^The database of 90 pips couldn\u2019t be built: .* That of 44 pips goes on\.$/s });
+        await give(page, `${what}: the first still answers`, near);
         await giveCounts(page, far);
         await page.until("!document.getElementById('wider').hidden");
         await page.click("#wider");
-        equal(`${what}: the focus stays`, await page.value(FOCUS), "numbers");
+        await sees(page, `${what}: the focus stays`, { focus: "numbers" });
         await isOpen(page, 90);
         await compare(page, `${what}: tried again`, far);
-        equal(`${what}: and there`, await page.value(SHOWS), ["90 pips", true, true, true]);
+        await shows(page, `${what}: and there`, "90 pips");
         await compareWatched(page, what, 2);
     }
 }
@@ -487,58 +476,45 @@ async function driveWider(browser) {
 // On the free board a roll is guessed by moving checkers, by mouse, by dragging, by keys and by
 // touch: what it loses is the program's.
 async function driveGuessed(browser) {
-    const isChromium = browser.name === "Chromium";
     const position = "0,1,0,1,0,1";
-    for (const way of ["mouse", "drag", "keys", ...(isChromium ? ["touch"] : [])]) {
+    const telephone = { width: 360, height: 780, mobile: true };
+    const isInSight = async (page, name, ...selectors) => equal(`${name}: in sight`, await page.value(OUT_OF_SIGHT(selectors)), []);
+    const ASKED = ["#board svg", "#board .guessing button", "#plays h3"];
+    for (const way of ["mouse", "drag", "keys", ...(browser.name === "Chromium" ? ["touch"] : [])]) {
         const isSmall = way === "touch";
-        const page = await browser.open(`${address}#at=${position}&guess=1`,
-            isSmall ? { width: 360, height: 780, mobile: true } : {});
+        const page = await browser.open(`${address}#at=${position}&guess=1`, isSmall ? telephone : {});
         await page.until(`${READY} && document.querySelector(".rolls button")`);
-        if (isSmall) {
-            // with few plays, and with more than the sheet has room for
-            for (const [at, roll] of [[position, "52"], ["2,2,2,2,2,2", "31"]]) {
-                const linked = await browser.open(`${address}#at=${at}&guess=1&roll=${roll}`,
-                    { width: 360, height: 780, mobile: true });
-                await linked.until('document.querySelector("#board .source") && document.querySelector(".plays")');
-                equal(`a link to a guess of ${roll}: in sight`,
-                    await linked.value(OUT_OF_SIGHT(["#board svg", "#board .guessing button", "#plays h3"])), []);
-                await linked.close();
-            }
+        // with few plays, and with more than the sheet has room for
+        for (const [at, roll] of isSmall ? [[position, "52"], ["2,2,2,2,2,2", "31"]] : []) {
+            const linked = await browser.open(`${address}#at=${at}&guess=1&roll=${roll}`, telephone);
+            await linked.until(MAKING);
+            await isInSight(linked, `a link to a guess of ${roll}`, ...ASKED);
+            await linked.close();
         }
         let sum = [0n, 1n];
         for (const [place, roll] of ["52", "31", "22"].entries()) {
-            const tile = `[data-key="roll ${roll}"]`;
-            if (isSmall) {
-                await page.aim(tile);
-                await page.tap(tile);
-            } else await page.click(tile);
-            await page.until('document.querySelector("#board .source") && document.querySelector(".plays")');
-            if (isSmall) equal(`${way} ${roll}: in sight`,
-                await page.value(OUT_OF_SIGHT(["#board svg", "#board .guessing button", "#plays h3"])), []);
-            const plays = ask(`moves ${position} ${roll}`).split(" ").slice(1).map((word) => word.split(":"));
+            const tile = keyed(`roll ${roll}`);
+            if (isSmall) await page.aim(tile);
+            await (isSmall ? page.tap(tile) : page.click(tile));
+            await page.until(MAKING);
+            if (isSmall) await isInSight(page, `${way} ${roll}`, ...ASKED);
+            const plays = movesOf(position, roll);
             const [to, loss] = plays[(place + 1) % plays.length];
-            if (way === "keys") await page.value('document.querySelector(\'#board [tabindex="0"].to-play\').focus()');
+            if (way === "keys") await focusOn(page, '#board [tabindex="0"].to-play');
             else await page.aim("#board svg");
             await WAYS[way](page, movesTo(position, roll, to));
-            await page.until('document.querySelector("#plays .verdict") && !document.querySelector("#plays .verdict").textContent.includes("\u2026")');
+            await page.known("#plays .verdict");
             equal(`${way} ${roll}: what it loses`,
-                await page.value('document.querySelector(".plays [aria-pressed=true] .cost").title'),
-                `${loss} of a roll`);
-            equal(`${way} ${roll}: the focus`, (await page.value(FOCUS)).split(" ")[0], "play");
-            equal(`${way} ${roll}: the board`, [(await page.value(SHOWN)).values,
-                    await page.value('document.querySelectorAll("#board [role=spinbutton]").length')], [position, 6]);
-            if (isSmall) equal(`${way} ${roll}: its verdict is in sight`,
-                await page.value(OUT_OF_SIGHT(["#plays .verdict p"])), []);
-            const [above, below] = loss.split("/").map(BigInt);
-            sum = [sum[0] * below + above * sum[1], sum[1] * below];
-            if (isSmall) await page.tap('[data-key="close"]');
+                await page.value('document.querySelector(".plays [aria-pressed=true] .cost").title'), `${loss} of a roll`);
+            await sees(page, `${way} ${roll}`, { focus: /^play /, "count #board [role=spinbutton]": 6 });
+            equal(`${way} ${roll}: the board`, (await page.value(SHOWN)).values, position);
+            sum = added(sum, loss);
+            if (isSmall) await isInSight(page, `${way} ${roll}: its verdict`, "#plays .verdict p");
+            if (isSmall) await page.tap(keyed("close"));
         }
-        const told = (await page.value('document.getElementById("said").textContent + document.querySelector("#plays").textContent'));
-        if (!isSmall) {
-            const exact = told.match(/Exactly: (\d+)\/(\d+)/)?.slice(1).map(BigInt);
-            if (exact) equal(`${way}: what three lost`, exact[0] * sum[1] === sum[0] * exact[1], true);
-            else equal(`${way}: what three lost is long`, String(sum[1]).length > 12, true);
-        }
+        const told = (await page.look(["#said", "#plays"])).join("").match(/Exactly: (\d+)\/(\d+)/)?.slice(1).map(BigInt);
+        if (!isSmall && told) equal(`${way}: what three lost`, told[0] * sum[1] === sum[0] * told[1], true);
+        else if (!isSmall) equal(`${way}: what three lost is long`, String(sum[1]).length > 12, true);
         equal(`${way}: nothing went wrong`, page.troubles(), []);
     }
 }
@@ -562,7 +538,6 @@ async function driveFiles(page) {
     damaged[32 + 426 + 3] ^= 1;
     await put(page, damaged);
     await page.until('!document.getElementById("trouble").hidden');
-    const trouble = await page.value('document.getElementById("trouble").textContent');
     let line = "";
     writeFileSync(join(folder, "damaged"), damaged);
     try {
@@ -570,14 +545,14 @@ async function driveFiles(page) {
     } catch (error) {
         line = error.stderr.toString().replace("bearoff: refused ", "").trim();
     }
-    (line && trouble.includes(`First fault: ${line}.`))
-        || wrong(`the refusal says "${trouble}", and the program "${line}"`);
-    equal("the former database stays", await page.value('document.getElementById("open").textContent'), "44 pips");
+    const [trouble] = await page.look(["#trouble"]);
+    (line && trouble.includes(`First fault: ${line}.`)) || wrong(`the refusal says "${trouble}", and the program "${line}"`);
+    await sees(page, "the former database stays", { "#open": "44 pips" });
     await put(page, eight, "choose");
     await page.until('document.getElementById("open").textContent === "8 pips"');
-    equal("the trouble is gone", await page.value('document.getElementById("trouble").hidden'), true);
-    await page.click('[data-key="clear"]');
-    for (let checker = 0; checker < 5; checker += 1) await page.click('[data-key="Add 1"]');
+    await sees(page, "the trouble is gone", { "hidden #trouble": true });
+    await page.click(keyed("clear"));
+    for (let checker = 0; checker < 5; checker += 1) await page.click(keyed("Add 1"));
     await compare(page, "over a file of one's own", "5,0,0,0,0,0");
 }
 
@@ -588,25 +563,18 @@ async function driveMoments(browser) {
     race[race.length - 1] ^= 1;
     const page = await browser.open(`${address}#p=2,2,2,2,2,2`, { before: SLOW + WATCH });
     await page.until(`${READY} && ${KNOWN}`);
-    await page.value(`window.dropped = (bytes) => {
-        const transfer = new DataTransfer();
-        transfer.items.add(new File([Uint8Array.from(atob(bytes), (letter) => letter.charCodeAt(0))], "own.db"));
-        document.body.dispatchEvent(new DragEvent("drop", { dataTransfer: transfer, bubbles: true, cancelable: true }));
-    }`);
-    await page.value(`(async () => {
-        dropped(${JSON.stringify(race.toString("base64"))});
-        await new Promise((keep) => setTimeout(keep, 100));
-        document.querySelector('[data-key="Remove 6"]').click();
-        document.getElementById("keep").click();
-        document.querySelector('[data-key="Remove 5"]').click();
-        document.querySelector('[data-key="Remove 5"]').click();
-    })()`);
+    await put(page, race);
+    await page.value(`new Promise((keep) => setTimeout(keep, 100)).then(() => {
+        for (const key of ["Remove 6", "", "Remove 5", "Remove 5"]) {
+            document.querySelector(key ? '[data-key="' + key + '"]' : "#keep").click();
+        }
+    })`);
     equal("a board that changes while a file is checked",
         await page.value(`({ board: ${SHOWN}.values, bar: document.getElementById("bar").hidden })`),
         { board: "2,2,2,2,0,1", bar: false });
     await page.until('!document.getElementById("trouble").hidden');
     await compare(page, "after the refusal", "2,2,2,2,0,1");
-    await page.until('![...document.querySelectorAll(".kept td[data-head]")].some((cell) => cell.textContent === "\u2026")');
+    await page.known(".kept td[data-head]");
     await compareWatched(page, "while a file is checked", 3);
 
     const wider = await browser.open(`${address}#at=2,2,2,2,2,2`, { before: machine(60000, { late: 300 }) + WATCH });
@@ -614,17 +582,15 @@ async function driveMoments(browser) {
     await wider.value('location.hash = "#at=0,0,0,3,5,3"');
     await wider.until("workers.length === 2");
     await wider.value(`(async () => {
-        for (const count of [1, 2, 3]) {
-            await new Promise((keep) => setTimeout(keep, 40));
-            document.querySelector('[data-key="Remove 6"]').click();
+        for (const key of ["Remove 6", "Remove 6", "Remove 6", "", "Add 1", "Add 1"]) {
+            if (key === "Remove 6") await new Promise((keep) => setTimeout(keep, 40));
+            document.querySelector(key ? '[data-key="' + key + '"]' : "#keep").click();
         }
-        document.getElementById("keep").click();
-        document.querySelector('[data-key="Add 1"]').click();
-        document.querySelector('[data-key="Add 1"]').click();
     })()`);
     await wider.until('document.getElementById("open").textContent === "90 pips"', 60000);
     await compare(wider, "after 90 pips were built", "2,0,0,3,5,0");
-    await wider.until('document.querySelectorAll(".kept td[data-head]").length === 4 && !document.querySelector(".kept").textContent.includes("\u2026")');
+    await wider.known(".kept td[data-head]");
+    await sees(wider, "one is kept", { "count .kept td[data-head]": 4 });
     await compareWatched(wider, "while 90 pips are built", 2);
 }
 
@@ -635,30 +601,22 @@ const LESSON = new URLSearchParams([["t", "<b>A lesson</b>"], ["p", "0,0,0,4,4,1
     ["p", "2,2,2,2,2,2"]]);
 
 async function driveLesson(browser) {
-    const caption = LESSON.get("c");
     const page = await browser.open(`${address}#${LESSON}`);
     await page.until(SORTED);
-    equal("captions are text",
-        await page.value('[...document.querySelectorAll(".kept input")].map((input) => input.value)'),
-        [caption, "", "'fifteen'"]);
-    equal("no markup was read",
-        await page.value('document.querySelectorAll("img, b:not(dialog b, [data-key=today] b)").length'), 0);
-    equal("the title is text", await page.value('document.getElementById("lesson").textContent'), "<b>A lesson</b>");
+    const order = ["0,0,0,4,4,1", "2,2,2,2,2,2", "15,0,0,0,0,0"];
+    const counts = order.map((position) => ask(`mean ${position}`).split(" ").pop());
+    const inputs = (used) => used.value('[...document.querySelectorAll(".kept input")].map((input) => input.value)');
+    const captions = [LESSON.get("c"), "", "'fifteen'"];
+    equal("captions are text", await inputs(page), captions);
+    await sees(page, "no markup was read, and they are sorted", {
+        "count img, b:not(dialog b, [data-key=today] b)": 0, "#lesson": "<b>A lesson</b>",
+        "all .kept [data-head=EPC]": counts,
+        "all .kept [data-head=Wastage]": counts.map((count, place) => (Number(count) - pipsOf(order[place])).toFixed(3)) });
     equal("the title of the page", await page.value("document.title"), "<b>A lesson</b> \u2013 Bearing off");
-    equal("sorted",
-        await page.value('[...document.querySelectorAll(".kept [data-head=EPC]")].map((cell) => cell.textContent)'),
-        ["0,0,0,4,4,1", "2,2,2,2,2,2", "15,0,0,0,0,0"].map((position) => ask(`mean ${position}`).split(" ").pop()));
-    equal("wastage",
-        await page.value('[...document.querySelectorAll(".kept [data-head=Wastage]")].map((cell) => cell.textContent)'),
-        ["0,0,0,4,4,1", "2,2,2,2,2,2", "15,0,0,0,0,0"].map((position) =>
-                (Number(ask(`mean ${position}`).split(" ").pop()) - pipsOf(position)).toFixed(3)));
     await page.until('location.hash.includes("at=")', 3000);
-    const kept = await page.value("location.hash");
-    const again = await browser.open(address + kept);
+    const again = await browser.open(address + await page.value("location.hash"));
     await again.until(SORTED);
-    equal("the address keeps all",
-        await again.value('[...document.querySelectorAll(".kept input")].map((input) => input.value)'),
-        [caption, "", "'fifteen'"]);
+    equal("the address keeps all", await inputs(again), captions);
     equal("nothing went wrong", [...page.troubles(), ...again.troubles()], []);
 }
 
@@ -666,39 +624,36 @@ async function driveHistory(browser) {
     const page = await browser.open(`${address}#at=1,0,0,0,0,0`);
     await page.until(`${READY} && ${KNOWN}`);
     await page.until('location.hash === "#at=1,0,0,0,0,0"');
-    await page.value('document.querySelector(\'[data-key="Add 4"]\').click()');
-    await wait(400);
-    await page.value('document.getElementById("keep").click()');
-    await wait(400);
-    await page.click('[data-key="roll 21"]');
-    await wait(400);
-    const state = '[document.getElementById("counts").value, document.querySelectorAll(".kept tbody tr").length, document.querySelectorAll(".rolls [aria-pressed=true]").length].join(" ")';
+    for (const selector of [keyed("Add 4"), "#keep", keyed("roll 21")]) {
+        await page.poke(selector);
+        await wait(400);
+    }
+    const state = '[document.getElementById("counts").value, document.querySelectorAll(".kept tbody tr").length, '
+        + 'document.querySelectorAll(".rolls [aria-pressed=true]").length].join(" ")';
     equal("before Back", await page.value(state), "1,0,0,1,0,0 1 1");
     for (const [move, wanted] of [["back", "1,0,0,1,0,0 1 0"], ["back", "1,0,0,1,0,0 0 0"], ["back", "1,0,0,0,0,0 0 0"],
-            ["forward", "1,0,0,1,0,0 0 0"], ["forward", "1,0,0,1,0,0 1 0"], ["forward", "1,0,0,1,0,0 1 1"]]) {
+        ["forward", "1,0,0,1,0,0 0 0"], ["forward", "1,0,0,1,0,0 1 0"], ["forward", "1,0,0,1,0,0 1 1"]]) {
         await page[move]();
-        await page.until(`${state} === "${wanted}"`,
-            3000).catch(async () => wrong(`${move}: ${await page.value(state)}, and not ${wanted}`));
+        await page.until(`${state} === "${wanted}"`, 3000)
+            .catch(async () => wrong(`${move}: ${await page.value(state)}, and not ${wanted}`));
     }
     await compare(page, "after Forward", "1,0,0,1,0,0");
     // as a link of an older page has it
     await page.value('location.hash = "#at=0,0,0,3,5,3&pips=58"');
-    await page.until('document.getElementById("open").textContent === "90 pips" && document.querySelector(".figures")',
-        60000);
+    await page.until('document.getElementById("open").textContent === "90 pips" && document.querySelector(".figures")', 60000);
     await page.until('document.querySelector(".figure dd").textContent.trim() === "55"');
 }
 
 async function driveCopy(browser) {
     const page = await browser.open(`${address}#at=1,0,0,0,0,0`);
     await page.until(`${READY} && ${KNOWN}`);
-    await page.click('[data-key="Add 4"]');
+    await page.click(keyed("Add 4"));
     await page.click("#copy");
     await page.until('document.getElementById("copied").textContent');
-    equal("on a disk it says so",
-        await page.value('document.getElementById("copied").textContent.includes("opens only here")'), true);
-    equal("the address is as it is now", await page.value('location.hash'), "#at=1,0,0,1,0,0");
-    const field = await page.value('[document.getElementById("link").hidden, document.getElementById("link").value === location.href, document.getElementById("copy").textContent]');
-    (field[0] && field[2] === "Copied") || (!field[0] && field[1]) || wrong(`the link: ${field.join(" ")}`);
+    await sees(page, "on a disk it says so, and the address is as it is now", { "#copied": /opens only here/,
+        hash: "#at=1,0,0,1,0,0" });
+    const [isHidden, value, told] = await page.look(["hidden #link", "value #link", "#copy"]);
+    (isHidden ? told === "Copied" : value === await page.value("location.href")) || wrong(`the link: ${value} ${told}`);
 }
 
 // The pictures that the page saves, kept for the test.
@@ -842,61 +797,57 @@ const WAYS = {
 const movesTo = (position, roll, to) => legalFrom(position.split(",").map(Number))
     .find(({ dice }) => dice.join("") === roll).plays.find((play) => play.to.join() === to).moves;
 
-const NEXT = '[data-key="next question"]';
+const textOf = (moves) => moves.map(([from, to]) => `${from}/${to || "off"}`).join(" ");
+const NEXT = keyed("next question");
+const MAKING = 'document.querySelector("#board .source") && document.querySelector(".plays")';
 
 // A drill of twenty by its seed, each play made in the way of its place: each verdict, what it loses and the score are
 // the program's.
 // What was missed is asked once more, and then counts for nothing.
 async function playDrill(page, hash, way, next) {
     await page.until(`document.body.dataset.ready && document.querySelector('${NEXT}')`);
-    const nearest = ([above, below]) => (Number((2000n * above + below) / (2n * below)) / 1000).toFixed(3);
     let sum = [0n, 1n];
     let [missed, right] = [0, 0];
     for (let place = 0; place < 20 + missed; place += 1) {
         const words = place < 20 ? `Question ${place + 1} of 20.` : `Once more, ${place - 19} of ${missed}.`;
-        await page.until(`document.querySelector("#coach .asks").textContent.startsWith("${words}") && document.querySelector("#board .source") && document.querySelector(".plays")`);
-        const [position, dice, texts] = await page.value(`[${SHOWN}.values, document.querySelector("#coach .asks .heard").textContent,
-            [...document.querySelectorAll(".plays .moves")].map((node) => node.textContent)]`);
+        await page.until(`document.querySelector("#coach .asks").textContent.startsWith("${words}") && ${MAKING}`);
+        const position = (await page.value(SHOWN)).values;
+        const [dice, texts] = await page.look(["#coach .asks .heard", "all .plays .moves"]);
         const roll = dice.startsWith("Double") ? dice.slice(-1).repeat(2) : dice.replace(" and ", "");
-        const plays = ask(`moves ${position} ${roll}`).split(" ").slice(1).map((word) => word.split(":"));
-        const losses = plays.map(([, loss]) => loss);
-        if (losses.length < 2 || losses.filter((loss) => loss.startsWith("0/"))
-                .length !== 1) wrong(`${position} ${roll} has nothing to decide`);
-        equal(`${words} tells no loss`,
-            await page.value('document.querySelectorAll("#plays .cost, #board .arc").length'), 0);
-        const [to, loss] = place < 20 || place % 2 === 0 ? plays[(7 * place) % plays.length]
-            : plays.find(([, lost]) => lost.startsWith("0/"));
+        const plays = movesOf(position, roll);
+        const isBest = ([, loss]) => loss.startsWith("0/");
+        if (plays.length < 2 || plays.filter(isBest).length !== 1) wrong(`${position} ${roll} has nothing to decide`);
+        await sees(page, `${words} tells no loss`, { "count #plays .cost, #board .arc": 0 });
+        const [to, loss] = place < 20 || place % 2 === 0 ? plays[(7 * place) % plays.length] : plays.find(isBest);
         const moves = movesTo(position, roll, to);
         await way(place)(page, moves, texts);
-        await page.until(`document.querySelector("#coach .verdict") && !document.querySelector("#coach .verdict").textContent.includes("\u2026")`);
-        const [verdict, shown, costs] = await page.value(`[document.querySelector("#coach .verdict").textContent, document.querySelector(".plays [aria-pressed=true] .moves").textContent,
-            document.querySelector(".plays [aria-pressed=true] .cost").title]`);
-        equal(`${words} what was played`, effectOf(shown),
-            effectOf(moves.map(([from, end]) => `${from}/${end || "off"}`).join(" ")));
-        equal(`${words} what it loses`, costs, `${loss} of a roll`);
-        const [above, below] = loss.split("/").map(BigInt);
+        await page.known("#coach .verdict");
+        const [verdict, shown] = await page.look(["#coach .verdict", ".plays [aria-pressed=true] .moves"]);
+        equal(`${words} what was played`, effectOf(shown), effectOf(textOf(moves)));
+        equal(`${words} what it loses`,
+            await page.value('document.querySelector(".plays [aria-pressed=true] .cost").title'), `${loss} of a roll`);
+        const lost = over(loss);
         const best = verdict.match(/best is ([^.]*)\./)?.[1] || verdict.match(/^(.*) is best\./)?.[1] || "";
-        equal(`${words} what is best`, effectOf(best),
-            effectOf(ask(`play ${position} ${roll}`).split(" to ")[0].slice(5)));
-        equal(`${words} the verdict`, verdict, above === 0n ? `${shown} is best.`
-                : `${shown} loses ${nearest([above, below])} of a roll; best is ${best}. In EPC: ${nearest([49n * above, 6n * below])} pips.`);
+        equal(`${words} what is best`, effectOf(best), effectOf(ask(`play ${position} ${roll}`).split(" to ")[0].slice(5)));
+        equal(`${words} the verdict`, verdict, lost[0] === 0n ? `${shown} is best.`
+            : `${shown} loses ${rounded(lost)} of a roll; best is ${best}. In EPC: ${inPips(lost)} pips.`);
         if (place < 20) {
-            sum = [sum[0] * below + above * sum[1], sum[1] * below];
-            if (above > 0n) missed += 1;
-        } else if (above === 0n) right += 1;
+            sum = added(sum, loss);
+            if (lost[0] > 0n) missed += 1;
+        } else if (lost[0] === 0n) right += 1;
         await next(page);
     }
-    await page.until('document.querySelector(".score") && !document.querySelector(".score").textContent.includes("\u2026")');
-    const told = await page.value('document.querySelector(".score").textContent');
+    await page.known(".score");
+    const [told] = await page.look([".score"]);
     // a fraction that is too long to be read is left out
     const divisor = (one, other) => (other === 0n ? one : divisor(other, one % other));
     const lowest = sum.map((part) => part / divisor(...sum)).join("/");
     equal(`${hash}: the score, exactly`, told.match(/Exactly: (.*) of a roll/)?.[1] ?? null,
         lowest.length <= 24 ? lowest : null);
     equal(`${hash}: the score`, told.split(" Exactly")[0],
-        `20 of 20 were played. They lost ${nearest(sum)} rolls, or ${nearest([49n * sum[0], 6n * sum[1]])} pips of EPC.`);
-    equal(`${hash}: what was missed`, await page.value('document.querySelector(".score + p").textContent'),
-        `${missed === 1 ? "One was missed" : `${missed} were missed`}; asked once more, ${right} ${right === 1 ? "was" : "were"} right.`);
+        `20 of 20 were played. They lost ${rounded(sum)} rolls, or ${inPips(sum)} pips of EPC.`);
+    await sees(page, `${hash}: what was missed`, { ".score + p": `${missed === 1 ? "One was missed" : `${missed} were missed`
+        }; asked once more, ${right} ${right === 1 ? "was" : "were"} right.` });
     equal(`${hash}: nothing went wrong`, page.troubles(), []);
 }
 
@@ -904,17 +855,13 @@ async function playDrill(page, hash, way, next) {
 async function driveDrill(browser) {
     const drill = "#drill=middle&seed=2026&ask=play";
     const page = await browser.open(address + drill);
-    const byList = async (used, moves, texts) => {
-        const text = texts.find((one) => effectOf(one) === effectOf(moves.map(([from, to]) => `${from}/${to || "off"}`)
-                .join(" ")));
-        await used.click(`[data-key="play ${text}"]`);
-    };
+    const byList = (used, moves, texts) =>
+        used.click(keyed(`play ${texts.find((one) => effectOf(one) === effectOf(textOf(moves)))}`));
     await playDrill(page, drill, (place) => [byList, WAYS.drag, WAYS.mouse][place % 3], (used) => used.click(NEXT));
-    await page.click('[data-key="mistakes"]');
+    await page.click(keyed("mistakes"));
     await page.until('document.querySelector("#coach h2").textContent === "Mistakes of a drill"');
     for (const position of ["0,0,0,0,4,4", "3,0,0,0,0,0", "7,4,2,0,0,0"]) {
-        const rank = Number(ask(`rank ${position}`).split(" ")[1]);
-        equal(`the rank of ${position}`, positions(44)[rank].join(), position);
+        equal(`the rank of ${position}`, positions(44)[Number(ask(`rank ${position}`).split(" ")[1])].join(), position);
     }
     equal("nothing went wrong", page.troubles(), []);
 
@@ -925,11 +872,91 @@ async function driveDrill(browser) {
     const keys = "#drill=high&seed=5&ask=play&level=easy";
     const typed = await browser.open(address + keys);
     await typed.until('document.body.dataset.ready && document.querySelector("#board .source")');
-    let tabs = 0;
-    for (; tabs < 10
-            && !(await typed.value('document.activeElement.classList.contains("to-play")')); tabs += 1) await typed.key("Tab");
-    equal("Tabs to the board", tabs < 6, true);
+    equal("Tabs to the board", await tabsTo(typed, 'document.activeElement.classList.contains("to-play")') < 6, true);
     await playDrill(typed, keys, () => WAYS.keys, (used) => used.key("Enter"));
+}
+
+// What a script does in the page.
+const click = (key) => `document.querySelector('[data-key="${key}"]').click()`;
+const touchBoard = 'document.querySelector("#board .source").dispatchEvent(new MouseEvent("click", { bubbles: true }))';
+const playLast = 'document.querySelector(".plays button:last-child").click()';
+const write = (key, text, then) => `document.querySelector('[data-key="${key}"]').value = ${JSON.stringify(text)}; ${click(then)}`;
+
+// Keeps what is heard, one after the other.
+const HEARD = `window.heard = [];
+new MutationObserver(() => {
+    const said = document.getElementById("said")?.textContent;
+    if (said && heard.at(-1) !== said) heard.push(said);
+}).observe(document, { subtree: true, childList: true, characterData: true });`;
+
+// How many Tabs lead to where something is true.
+async function tabsTo(page, is) {
+    let tabs = 0;
+    for (; tabs < 40 && !(await page.value(is)); tabs += 1) await page.key("Tab");
+    return tabs;
+}
+
+// How a thing is acted on, by its selector, its role and its name: by Tab and Enter, by a tap, or by what a reader is
+// told of the page, where one thing of the role has such a name.
+const ACTS = {
+    keys: async (page, selector) => {
+        const tabs = await tabsTo(page, `document.activeElement.matches(${JSON.stringify(selector)})`);
+        if (tabs === 40) throw new Error(`Tab doesn't lead to ${selector}`);
+        await page.key("Enter");
+    },
+    touch: async (page, selector) => {
+        await page.aim(selector);
+        await page.tap(selector);
+    },
+    told: async (page, selector, name) => {
+        const { nodes } = await page.send("Accessibility.getFullAXTree");
+        const found = nodes.filter((node) => !node.ignored && node.role?.value === "button" && name.test(node.name?.value));
+        if (found.length === 0) throw new Error(`no button is called ${name}`);
+        const { object: { objectId } } = await page.send("DOM.resolveNode", { backendNodeId: found[0].backendDOMNodeId });
+        await page.send("Runtime.callFunctionOn", { objectId, functionDeclaration: "function () { this.click(); }" });
+    },
+};
+
+// A whole session by keyboard alone, by touch alone, and by what is told: from home through ten questions, each with its
+// verdict and with what it lost, and once more through what was missed, to the review and home.
+async function driveSession(browser) {
+    for (const [way, act] of Object.entries(ACTS)) {
+        const page = await browser.open(address, { before: `localStorage.clear(); ${HEARD}`,
+            ...(way === "touch" ? { width: 360, height: 780, mobile: true } : {}) });
+        await page.send("DOM.enable");
+        await page.until(HOME);
+        await act(page, keyed("today"), /^Begin ten new$/);
+        let [asked, missed] = [0, 0];
+        for (; asked < 30; asked += 1) {
+            await page.until(`${MAKING} || document.querySelector(".reviewed")`, 60000);
+            if ((await page.look(["count .reviewed"]))[0] > 0) break;
+            const which = asked < 10 ? `Question ${asked + 1} of 10.` : `Once more, ${asked - 9} of ${missed}.`;
+            await sees(page, `${way}: ${which}`, { "#coach .asks": RegExp(`^${which}`), "count #coach .verdict": 0,
+                "count .plays .cost": 0, "count #board [role=button]": 7, "count .bar-of span": 10 });
+            await act(page, '.plays [tabindex="0"]', /^[1-6]\/\S/);
+            await page.known("#coach .verdict");
+            const [verdict] = await page.look(["#coach .verdict"]);
+            const isRight = / is best/.test(verdict);
+            if (asked < 10 && !isRight) missed += 1;
+            await sees(page, `${way}: the verdict of ${which}`, { focus: "next question",
+                "count #board figure": isRight ? 0 : 2, "#steering": /(Next|Score)$/ });
+            await act(page, NEXT, /^(Next|Score)$/);
+        }
+        equal(`${way}: ten, and what was missed once more`, asked, 10 + missed);
+        await page.known("#review");
+        await sees(page, `${way}: the review`, { "count .reviewed > li": 10, "count .reviewed > .lost": missed,
+            "count .reviewed .compared": missed > 0 ? 2 : 0, ".score": /^10 of 10 were played\./ });
+        const heard = await page.value("window.heard");
+        equal(`${way}: what is heard`, [
+            heard.filter((text) => /^(Question|Once more).* Which play of \d-\d is best\? The board: /.test(text)).length,
+            heard.filter((text) => /^\S.*( is best|; best is )/.test(text) && !/^(Question|Once)/.test(text)).length,
+            heard.at(-1)], [asked, asked, "The drill is over."]);
+        await act(page, keyed("finish"), /^Done$/);
+        await page.until(`${HOME} && location.hash === "#home"`);
+        await sees(page, `${way}: home`, { ".daily-told": /^Today\u2019s ten are done\./, focus: "today" });
+        equal(`${way}: nothing went wrong`, page.troubles(), []);
+        await page.close();
+    }
 }
 
 // What of some parts of the page isn't in sight whole, nothing being scrolled: its top, middle and
@@ -979,39 +1006,35 @@ async function driveSight(browser) {
             return at;
         };
         // from far below, where the lessons stand
-        const titles = await page.value(`Array.from({ length: 17 }, (_, place) => document.querySelector('[data-key="lesson ' + (place + 1) + '"]').textContent)`);
+        const numbers = Array.from({ length: 17 }, (_, place) => place + 1);
+        const titles = await page.look(numbers.map((number) => keyed(`lesson ${number}`)));
         for (const [place, title] of titles.entries()) {
             await page.value('location.hash = "#home"');
             await page.until(HOME);
-            await page.value(`(() => {
-                const link = document.querySelector('[data-key="lesson ${place + 1}"]');
-                link.focus();
-                scrollTo(0, document.documentElement.scrollHeight);
-                link.click();
-            })()`);
+            await focusOn(page, keyed(`lesson ${place + 1}`));
+            await page.value("scrollTo(0, document.documentElement.scrollHeight)");
+            await page.poke(keyed(`lesson ${place + 1}`));
             await page.until(`document.querySelector("#coach h2")?.textContent === ${JSON.stringify(title)} && ${KNOWN.replace("!", 'document.querySelector(".figures") === null || !')}`);
             equal(`${title} begins where one goes on`, await acted(title), "coach");
-            const count = Number((await page.value('document.querySelector("#coach .how").textContent'))
-                    .match(/of (\d+)/)[1]);
+            const count = Number((await page.look(["#coach .how"]))[0].match(/of (\d+)/)[1]);
             for (let step = 1; step <= count; step += 1) {
                 const name = `${title}, step ${step}`;
-                const [hasText, hasQuestion, hasRoll,
-                    hasAnswer] = await page.value(`[".says", ".asks", ".asks .die", '[data-key="answer"]'].map((part) => Boolean(document.querySelector((part.startsWith(".") ? "#coach " : "") + part)))`);
-                if (hasRoll) await page.until('document.querySelector("#board .source")');
-                const hasField = await page.value('Boolean(document.querySelector(".estimate input"))');
-                await look(name, ...(hasText ? ["#coach .says"] : []), ...(hasQuestion ? ["#coach .asks"] : []),
-                    ...(hasField ? [".estimate input", '[data-key="tell"]'] : []));
-                equal(`${name}: dice where a roll is asked`,
-                    await page.value('document.querySelectorAll("#coach .die").length'), hasRoll ? 2 : 0);
+                const parts = ["#coach .says", "#coach .asks", ".estimate input", keyed("tell"), keyed("answer"), "#coach .die"];
+                const counts = await page.look(parts.map((part) => `count ${part}`));
+                const [hasAnswer, dice] = counts.slice(-2);
+                const hasRoll = dice > 0;
+                if (hasRoll) await page.there("#board .source");
+                await look(name, ...parts.slice(0, 4).filter((_, at) => counts[at] > 0));
+                equal(`${name}: dice where a roll is asked`, dice, hasRoll ? 2 : 0);
                 if (hasRoll) {
                     await press(".plays button:last-child");
-                    await page.until('document.querySelector("#coach .verdict") && !document.querySelector("#coach .verdict").textContent.includes("\u2026")');
+                    await page.known("#coach .verdict");
                     await acted(`${name}, a play`);
                     await look(`${name}, its verdict`, "#coach .verdict");
                 }
                 if (hasAnswer) {
-                    await press('[data-key="answer"]');
-                    await page.until('document.querySelector(".answers")');
+                    await press(keyed("answer"));
+                    await page.there(".answers");
                     await acted(`${name}, the answer`);
                     await look(`${name}, its answer`, "#coach .answers");
                 }
@@ -1028,41 +1051,32 @@ async function driveSight(browser) {
         equal("the end of a lesson", await acted("the end"), "today");
 
         for (const [asked, level] of [["play", "hard"], ["effective", "any"]]) {
-            await page.value(`(() => {
-                for (const [key, value] of [["theme", "all"], ["asked", "${asked}"], ["level", "${level}"], ["seed", "12"]]) document.querySelector('[data-key="' + key + '"]').value = value;
-                const button = document.querySelector('[data-key="begin drill"]');
-                button.scrollIntoView();
-                button.focus();
-                button.click();
-            })()`);
-            await page.until(asked === "play"
-                    ? 'document.querySelector("#board .source") && document.querySelector(".plays")'
+            for (const [key, value] of [["theme", "all"], ["asked", asked], ["level", level], ["seed", "12"]]) {
+                await page.value(`document.querySelector('${keyed(key)}').value = "${value}"`);
+            }
+            await page.aim(keyed("begin drill"));
+            await press(keyed("begin drill"));
+            await page.until(asked === "play" ? MAKING
                 : 'document.querySelector(".estimate input") && document.querySelector("#coach .asks")');
             equal("a drill begins where one goes on", await acted("a drill"), "coach");
-            if (asked === "play") {
-                let tabs = 0;
-                for (; tabs < 30
-                        && !(await page.value('(document.activeElement.dataset.key || "").startsWith("play ")')); tabs += 1) await page.key("Tab");
-                equal(`${width} x ${height}: Tabs to the first play`, tabs < 10, true);
-            }
+            if (asked === "play") equal(`${width} x ${height}: Tabs to the first play`,
+                await tabsTo(page, '(document.activeElement.dataset.key || "").startsWith("play ")') < 10, true);
             for (let place = 0; place < 4; place += 1) {
                 const name = `${asked}, question ${place + 1}`;
-                await look(name, "#coach .asks", ...(asked === "play" ? [] : ["#numbers .estimate input",
-                        '[data-key="tell"]']));
+                await look(name, "#coach .asks", ...(asked === "play" ? [] : ["#numbers .estimate input", keyed("tell")]));
                 if (asked === "play") {
                     // the first by the board, with its undo, and the others by the list
                     if (place === 0) {
-                        const from = await page.value('document.querySelector("#board .source").dataset.key');
-                        await press(`[data-key="${from}"]`);
+                        await press("#board .source");
                         await acted(`${name}, picked`);
                         await press("#board .target");
                         await acted(`${name}, moved`);
-                        await look(`${name}, moved`, '[data-key="undo"]');
-                        await press('[data-key="undo"]');
+                        await look(`${name}, moved`, keyed("undo"));
+                        await press(keyed("undo"));
                         await acted(`${name}, undone`);
                     }
                     await press(`.plays button:${place < 2 ? `nth-child(${place + 1})` : "last-child"}`);
-                    await page.until('document.querySelector("#coach .verdict") && !document.querySelector("#coach .verdict").textContent.includes("\u2026")');
+                    await page.known("#coach .verdict");
                     equal(`${name}: the focus is at the way on`, await acted(`${name}, played`), "next question");
                     await look(`${name}, its verdict`, "#coach .verdict", NEXT);
                 } else {
@@ -1099,42 +1113,39 @@ async function driveSight(browser) {
 
 // A play on the board in each browser: by dragging, by clicks and by keys, taken back, and played.
 async function drivePlayed(browser) {
-    const text = "lesson: One\nstep: 0,0,0,1,0,1\nroll: 52\nask: Which?\nstep: 0,0,0,4,4,1\nroll: 33\nask: Which?\nstep: 0,2,0,1,0,1\nroll: 31\nask: Which?";
+    const text = "lesson: One\nstep: 0,0,0,1,0,1\nroll: 52\nask: Which?\nstep: 0,0,0,4,4,1\nroll: 33\nask: Which?\n"
+        + "step: 0,2,0,1,0,1\nroll: 31\nask: Which?";
     const page = await browser.open(`${address}#${new URLSearchParams([["text", text]])}`);
-    const PLAYS = 'document.querySelector("#board .source")';
-    await page.until(`document.body.dataset.ready && ${PLAYS}`);
+    await page.until('document.body.dataset.ready && document.querySelector("#board .source")');
     const board = async () => (await page.value(SHOWN)).values;
-    await page.drag(point(6), point(5));
-    equal("a place where nothing goes", await board(), "0,0,0,1,0,1");
-    equal("a checker that was dropped there is back",
-        await page.value('document.querySelectorAll("#board .picked").length'), 0);
-    await page.drag(point(6), point(1));
-    equal("dragged", await board(), "1,0,0,1,0,0");
-    await page.drag(point(4), point(2));
-    equal("the play", await page.value('document.querySelector(\'[data-key="made"]\').textContent'), "Play 6/1 4/2");
-    await page.click('[data-key="undo"]');
-    await page.click('[data-key="undo"]');
+    for (const [name, from, to, points, seen] of [
+        ["a place where nothing goes, and the checker is back", 6, 5, "0,0,0,1,0,1", { "count #board .picked": 0 }],
+        ["dragged", 6, 1, "1,0,0,1,0,0", {}], ["the play", 4, 2, "1,1,0,0,0,0", { [keyed("made")]: "Play 6/1 4/2" }]]) {
+        await page.drag(point(from), point(to));
+        equal(name, await board(), points);
+        await sees(page, name, seen);
+    }
+    await page.click(keyed("undo"));
+    await page.click(keyed("undo"));
     equal("undone", await board(), "0,0,0,1,0,1");
     await page.drag(point(6), point(0));
-    equal("with both dice", await page.value('document.querySelector(\'[data-key="made"]\').textContent'),
-        "Play 6/off");
-    await page.click('[data-key="made"]');
-    await page.until('document.querySelector("#coach .verdict") && !document.querySelector("#coach .verdict").textContent.includes("\u2026")');
-    equal("its verdict", await page.value('document.querySelector("#coach .verdict").textContent'),
-        "6/off loses 0.056 of a roll; best is 6/1 4/2. In EPC: 0.454 pips.");
-    for (const [way, to] of [["mouse", 0], ["keys", 1]]) {
-        await page.click('[data-key="next step"]');
-        await page.until(PLAYS);
-        const [position, roll] = [await board(), to === 0 ? "33" : "31"];
-        const words = ask(`moves ${position} ${roll}`).split(" ").slice(1).map((word) => word.split(":"));
-        const [end, loss] = words[to];
+    await sees(page, "with both dice", { [keyed("made")]: "Play 6/off" });
+    await page.click(keyed("made"));
+    await page.known("#coach .verdict");
+    await sees(page, "its verdict",
+        { "#coach .verdict": "6/off loses 0.056 of a roll; best is 6/1 4/2. In EPC: 0.454 pips." });
+    for (const [way, to, roll] of [["mouse", 0, "33"], ["keys", 1, "31"]]) {
+        await page.click(keyed("next step"));
+        await page.there("#board .source");
+        const position = await board();
+        const [end, loss] = movesOf(position, roll)[to];
         if (way === "mouse") {
             await page.drag(point(5), point(4));
-            equal("dropped on a point that it can't reach",
-                [await board(), await page.value('document.querySelectorAll("#board .picked").length')], [position, 0]);
+            equal("dropped on a point that it can't reach", await board(), position);
+            await sees(page, "dropped there", { "count #board .picked": 0 });
         }
         await WAYS[way](page, movesTo(position, roll, end));
-        await page.until('document.querySelector("#plays .cost")');
+        await page.there("#plays .cost");
         equal(`by ${way}`, await page.value('document.querySelector(".plays [aria-pressed=true] .cost").title'),
             `${loss} of a roll`);
     }
@@ -1146,59 +1157,56 @@ async function drivePlayed(browser) {
 async function driveLessons(browser) {
     const page = await browser.open(address);
     await page.until(HOME);
-    const count = await page.value('document.querySelectorAll(".lessons a").length');
-    equal("how many lessons", count, 17);
-    for (let number = 1; number <= count; number += 1) {
+    await sees(page, "how many lessons", { "count .lessons a": 17 });
+    for (let number = 1; number <= 17; number += 1) {
         await page.value('location.hash = "#home"');
         await page.until(HOME);
-        const title = await page.value(`document.querySelector('[data-key="lesson ${number}"]').textContent`);
-        await page.click(`[data-key="lesson ${number}"]`);
+        const [title] = await page.look([keyed(`lesson ${number}`)]);
+        await page.click(keyed(`lesson ${number}`));
         await page.until(`document.querySelector("#coach h2")?.textContent === ${JSON.stringify(title)}`);
         for (let step = 1, last = false; !last; step += 1) {
             await page.until(`document.querySelector("#coach .how").textContent.startsWith("Step ${step} of")`);
             const position = (await page.value(SHOWN)).values;
-            const isNumber = await page.value('document.querySelector("#numbers") && !document.querySelector(".figure")');
-            if (await page.value('Boolean(document.querySelector(\'[data-key="answer"]\'))')) {
-                equal(`${title}, step ${step}: closed`, await page.value('Boolean(document.querySelector(".answers"))'),
-                    false);
-                await page.click('[data-key="answer"]');
+            const [numbers, figures, answers, nexts] = await page.look(["count #numbers", "count .figure",
+                `count ${keyed("answer")}`, `count ${keyed("next step")}`]);
+            if (answers > 0) {
+                await sees(page, `${title}, step ${step}: closed`, { "count .answers": 0 });
+                await page.click(keyed("answer"));
                 await page.until('document.querySelector(".answers").textContent.length > 0');
-                if (isNumber) await page.until(`document.querySelector(".figure") && ${KNOWN}`);
-                if (isNumber) equal(`${title}, step ${step}: its number`, (await page.value(SHOWN)).figures[2],
-                    ask(`mean ${position}`).split(" ")[4]);
+                if (numbers > 0 && figures === 0) {
+                    await page.until(`document.querySelector(".figure") && ${KNOWN}`);
+                    equal(`${title}, step ${step}: its number`, (await page.value(SHOWN)).figures[2],
+                        ask(`mean ${position}`).split(" ")[4]);
+                }
             }
-            last = !(await page.value('Boolean(document.querySelector(\'[data-key="next step"]\'))'));
-            if (!last) await page.click('[data-key="next step"]');
+            last = nexts === 0;
+            if (!last) await page.click(keyed("next step"));
         }
     }
     const guess = await browser.open(`${address}#at=7,4,2,0,0,0&estimate=effective`);
     await guess.until('document.querySelector(".rolls .next") && document.querySelector(".estimate input")');
-    equal("no number before the estimate",
-        await guess.value('document.querySelectorAll("#numbers .figure").length + document.querySelectorAll(".chances").length'), 0);
+    await sees(guess, "no number before the estimate", { "count #numbers .figure, .chances": 0, "count #whole": 0 });
     await guess.click(".estimate input");
-    for (const key of ["5", "1", "Enter"]) await guess.key(key);
-    await guess.until('document.querySelector("#numbers .verdict")');
+    await press(guess, "5", "1", "Enter");
+    await guess.there("#numbers .verdict");
     const off = Math.abs(51 - Number(ask("mean 7,4,2,0,0,0").split(" ")[4])).toFixed(3);
-    equal("how far off", await guess.value('document.querySelector("#numbers .verdict").textContent'),
-        `You said 51.000: ${off} pips off. The mean error so far is ${off} pips.`);
+    await sees(guess, "how far off",
+        { "#numbers .verdict": `You said 51.000: ${off} pips off. The mean error so far is ${off} pips.` });
     for (const hash of ["#view=board&at=7,4,2,0,0,0", "#view=board&at=2,2,2,2,2,2&roll=31"]) {
         const small = await browser.open(address + hash, { width: 480, height: 320 });
         await small.until(`${READY} && ${KNOWN}`);
-        equal(`${hash} fits`,
-            await small.value("[document.documentElement.scrollWidth <= 480, document.documentElement.scrollHeight <= 320]"), [true, true]);
-        equal(`${hash} leads to the whole page`,
-            await small.value('[document.getElementById("whole").getAttribute("href"), document.getElementById("whole").offsetHeight > 0]'), [hash.replace("view=board&", ""), true]);
+        equal(`${hash} fits, and leads to the whole page`, await small.value(`[document.documentElement.scrollWidth <= 480,
+            document.documentElement.scrollHeight <= 320, document.getElementById("whole").getAttribute("href"),
+            document.getElementById("whole").offsetHeight > 0]`), [true, true, hash.replace("view=board&", ""), true]);
         const entries = await small.value("history.length");
         for (const place of [1, 1, 3]) {
             await small.click(point(place));
             await wait(300);
         }
         equal(`${hash}: what is set up there is no entry of the page around`,
-            [await small.value("history.length"), await small.value('location.hash.includes("view=board&at=")')],
-            [entries, true]);
+            await small.value('[history.length, location.hash.includes("view=board&at=")]'), [entries, true]);
         await small.close();
     }
-    equal("elsewhere there is no such link", await guess.value('document.getElementById("whole")'), null);
     equal("nothing went wrong", page.troubles(), []);
 }
 
@@ -1385,160 +1393,110 @@ async function driveTouch(browser) {
         const name = `${width} x ${height}`;
         const page = await browser.open(`${address}#at=0,0,0,4,4,1&p=2,2,2,2,2,2`, { width, height, mobile: true });
         await page.until(`${READY} && document.querySelector(".rolls .next")`);
-        const seen = (selector) => `(() => {
-            const box = document.querySelector(${JSON.stringify(selector)}).getBoundingClientRect();
-            const { left, top, right, bottom } = box;
-            const at = document.elementFromPoint((left + right) / 2, (top + bottom) / 2);
-            return box.width > 0 && top >= 0 && left >= 0 && bottom <= innerHeight && right <= innerWidth
-                && Boolean(at && at.closest(${JSON.stringify(selector)}));
-        })()`;
         const words = await page.value('document.getElementById("how").innerText');
         equal(`${name}: no mouse`, [words.includes("right-click"), words.startsWith("Tap")], [false, true]);
         equal(`${name}: no plays yet`, await page.value('document.getElementById("plays").offsetHeight'), 0);
-        await page.value('document.querySelector(\'[data-key="roll 53"]\').scrollIntoView({ block: "center" })');
-        await page.tap('[data-key="roll 53"]');
-        await page.until('document.querySelector(".plays")');
-        for (const selector of [".small", ".plays button", '[data-key="close"]', '[data-key="onward"]',
-                ".shown .loss"]) {
-            equal(`${name}: ${selector} is in sight`, await page.value(seen(selector)), true);
-        }
-        equal(`${name}: so is the tile`, await page.value(`document.querySelector('[data-key="roll 53"]').getBoundingClientRect().bottom
+        await page.aim(keyed("roll 53"));
+        await page.tap(keyed("roll 53"));
+        await page.there(".plays");
+        equal(`${name}: what is in sight`, await page.value(`[".small", ".plays button", '${keyed("close")}',
+            '${keyed("onward")}', ".shown .loss"].filter((selector) => {
+                const box = document.querySelector(selector).getBoundingClientRect();
+                const { left, top, right, bottom } = box;
+                const at = document.elementFromPoint((left + right) / 2, (top + bottom) / 2);
+                return !(box.width > 0 && top >= 0 && left >= 0 && bottom <= innerHeight && right <= innerWidth
+                    && at?.closest(selector));
+            })`), []);
+        equal(`${name}: so is the tile`, await page.value(`document.querySelector('${keyed("roll 53")}').getBoundingClientRect().bottom
             <= document.getElementById("plays").getBoundingClientRect().top`), true);
         await page.tap(".plays button:nth-child(2)");
-        await page.until('document.querySelector(".plays button:nth-child(2)").getAttribute("aria-pressed") === "true"');
-        const [loss, title] = await page.value('[document.querySelector(".loss").textContent, document.querySelector(".plays button:nth-child(2) .cost").title]');
-        equal(`${name}: the exact loss`, loss.includes(title.startsWith("0/") ? "loses nothing" : `loses ${title}`),
-            true);
-        equal(`${name}: the small board shows it`, await page.value('document.querySelectorAll(".small .arc").length'),
-            2);
-        await page.tap('[data-key="close"]');
+        await page.there('.plays button:nth-child(2)[aria-pressed="true"]');
+        const title = await page.value('document.querySelector(".plays button:nth-child(2) .cost").title');
+        const [loss] = await page.look([".loss"]);
+        equal(`${name}: the exact loss`, loss.includes(title.startsWith("0/") ? "loses nothing" : `loses ${title}`), true);
+        await sees(page, `${name}: the small board shows it`, { "count .small .arc": 2 });
+        await page.tap(keyed("close"));
         await page.until('document.getElementById("plays").offsetHeight === 0');
         equal(`${name}: what one taps is big enough`, await page.value(`[...document.querySelectorAll("button:not(.plain)")]
-            .filter((button) => button.offsetHeight > 0 && (button.offsetHeight < 24 || button.offsetWidth < 24)).map((button) => button.outerHTML.slice(0, 80))`), []);
+            .filter(({ offsetHeight, offsetWidth }) => offsetHeight > 0 && (offsetHeight < 24 || offsetWidth < 24))
+            .map((button) => button.outerHTML.slice(0, 80))`), []);
         equal(`${name}: nothing went wrong`, page.troubles(), []);
     }
     const page = await browser.open(address + TEACHING, { width: 360, height: 780, mobile: true });
     await page.until(`${READY} && document.querySelector(".plays")`);
-    await page.value('document.documentElement.style.fontSize = "32px"');
-    equal("twice the font at 360 pixels", await page.value("document.documentElement.scrollWidth"), 360);
-    await page.value('document.querySelector("details").open = true');
-    equal("with fractions", await page.value("document.documentElement.scrollWidth"), 360);
+    for (const act of ['document.documentElement.style.fontSize = "32px"', 'document.querySelector("details").open = true']) {
+        await page.value(act);
+        equal(`at 360 pixels, ${act}`, await page.value("document.documentElement.scrollWidth"), 360);
+    }
 }
 
 // One page of A4, and one of US Letter.
 async function drivePrint(browser) {
-    for (const [what, hash] of [["a lesson", TEACHING],
-            ["ten positions",
-        `#at=2,2,2,2,2,2&roll=11&t=Ten&${Array.from({ length: 10 }, (_, count) => `p=${count},1,0,0,0,1&c=number ${count}`).join("&")}`], ["a guess", `${TEACHING}&guess=1`]]) {
+    // as many pages of A4 and of US Letter
+    const pages = async (page, what, count) => {
+        for (const [paper, width, height] of [["A4", 8.27, 11.69], ["US Letter", 8.5, 11]]) {
+            const bytes = await page.pdf(width, height);
+            const found = bytes.toString("latin1").match(/\/Type\s*\/Page\b(?!s)/g) || [];
+            equal(`pages of ${paper} for ${what}`, [bytes.subarray(0, 5).toString(), found.length], ["%PDF-", count]);
+            if (pictures) writeFileSync(join(pictures, `${what} on ${paper}.pdf`.replaceAll(/[ #/]/g, "-")), bytes);
+        }
+    };
+    // what stands there: the text, the checkers of each board, how many dice, and what else is there
+    const printed = async (page) => {
+        await page.send("Emulation.setEmulatedMedia", { media: "print" });
+        return page.value(`[document.getElementById("printed").innerText.replace(/\\s+/g, " "),
+            [...document.querySelectorAll("#printed .small")].filter((board) => board.getBoundingClientRect().width > 100)
+                .map((board) => board.querySelectorAll("circle.checker").length),
+            document.querySelectorAll("#printed .die").length, [".top", "#rolls", "#coach", "#steering", "#review"]
+                .filter((part) => document.querySelector(part)?.offsetHeight > 0)]`);
+    };
+    for (const [what, hash] of [["a lesson", TEACHING], ["ten positions", `#at=2,2,2,2,2,2&roll=11&t=Ten&${
+        Array.from({ length: 10 }, (_, count) => `p=${count},1,0,0,0,1&c=number ${count}`).join("&")}`],
+    ["a guess", `${TEACHING}&guess=1`]]) {
         const page = await browser.open(address + encodeURI(decodeURI(hash)));
         await page.until(`${READY} && document.querySelector(".plays")`);
-        for (const [paper, width, height] of [["A4", 8.27, 11.69], ["US Letter", 8.5, 11]]) {
-            const bytes = await page.pdf(width, height);
-            const pages = bytes.toString("latin1").match(/\/Type\s*\/Page\b(?!s)/g) || [];
-            equal(`pages of ${paper} for ${what}`, [bytes.subarray(0, 5).toString(), pages.length], ["%PDF-", 1]);
-            if (pictures) writeFileSync(join(pictures, `${what} on ${paper}.pdf`.replaceAll(" ", "-")), bytes);
-        }
+        await pages(page, what, 1);
     }
     // a drill, what was answered of it, and its score
-    for (const [hash, act, boards, dice, words] of [
-        ["#drill=fifteen&seed=5&ask=play&level=hard", 'document.querySelector(".plays button:last-child").click()', 20,
-            40, ["Drill: All fifteen checkers, Play, hard", "loses", "best is"]],
-        ["#drill=few&seed=5&ask=play",
-            'for (let place = 0; place < 20; place += 1) document.querySelector(\'[data-key="next question"]\').click()', 20, 40, ["Drill: Two to four checkers, Play", "Seed 5"]],
-        ["#drill=all&seed=5&ask=effective",
-            `document.querySelector('[data-key="estimate"]').value = "60"; document.querySelector('[data-key="tell"]').click()`, 20, 0, ["What is the EPC?", "You said 60.000", "It is"]],
+    for (const [hash, act, dice, words] of [
+        ["#drill=fifteen&seed=5&ask=play&level=hard", playLast, 40, ["Drill: All fifteen checkers, Play, hard", "loses", "best is"]],
+        ["#drill=few&seed=5&ask=play", `for (let place = 0; place < 20; place += 1) ${click("next question")}`, 40,
+            ["Drill: Two to four checkers, Play", "Seed 5"]],
+        ["#drill=all&seed=5&ask=effective", write("estimate", "60", "tell"), 0,
+            ["What is the EPC?", "You said 60.000", "It is"]],
     ]) {
         const page = await browser.open(address + hash);
-        await page.until(dice ? 'document.querySelector("#board .source") && document.querySelector(".plays button")'
-                : 'document.querySelector("[data-key=estimate]") && document.querySelector(".drill-printed li")');
+        await page.until(dice ? MAKING : 'document.querySelector("[data-key=estimate]") && document.querySelector(".drill-printed li")');
         await page.value(act);
         await wait(100);
-        await page.send("Emulation.setEmulatedMedia", { media: "print" });
-        const [text, wide, thrown, others] = await page.value(`[document.getElementById("printed").innerText.replace(/\\s+/g, " "),
-            [...document.querySelectorAll(".drill-printed .small")].filter((board) => board.getBoundingClientRect().width > 100).length,
-            document.querySelectorAll("#printed .die").length, [".top", "#rolls", "#coach", "#steering", "#review"].filter((part) => document.querySelector(part)?.offsetHeight > 0)]`);
-        equal(`${hash} on paper`, [wide, thrown, others, words.filter((word) => !text.includes(word))],
-            [boards, dice, [], []]);
-        for (const [paper, width, height] of [["A4", 8.27, 11.69], ["US Letter", 8.5, 11]]) {
-            const bytes = await page.pdf(width, height);
-            equal(`pages of ${paper} for ${hash}`,
-                (bytes.toString("latin1").match(/\/Type\s*\/Page\b(?!s)/g) || []).length,
-                text.includes("Answers") ? 2 : 1);
-        }
+        const [text, boards, thrown, others] = await printed(page);
+        equal(`${hash} on paper`, [boards.length, thrown, others, words.filter((word) => !text.includes(word))],
+            [20, dice, [], []]);
+        await pages(page, hash, text.includes("Answers") ? 2 : 1);
         await page.close();
     }
+    // a class's sheet, and the key on a page of its own
+    const ofClass = await browser.open(`${address}#teacher`);
+    await ofClass.until(`document.body.dataset.ready && document.querySelector('${keyed("sheet")}')`);
+    await ofClass.value(write("positions", "2,2,2,2,2,2 31\n0,0,0,1,0,1 52", "sheet"));
+    await ofClass.there(".key li");
+    await pages(ofClass, "a sheet", 2);
+    const [sheet, ...drawn] = await printed(ofClass);
+    equal("a class's sheet on paper", [drawn, ["Name", "Key", "6/1 4/2"].filter((word) => !sheet.includes(word))],
+        [[[12, 2], 4, []], []]);
     // each lesson of the page, whole: its title, and of each step the board, the text, the question, the dice and the
     // answer
     const { lessons } = readLessons(readFileSync(new URL("../../web/lessons.txt", import.meta.url), "utf8"));
     for (const [number, { title, steps }] of lessons.entries()) {
         const page = await browser.open(`${address}#lesson=${number + 1}`);
         await page.until('document.body.dataset.ready && document.querySelector("#printed h2")');
-        for (const [paper, width, height] of [["A4", 8.27, 11.69], ["US Letter", 8.5, 11]]) {
-            const bytes = await page.pdf(width, height);
-            equal(`pages of ${paper} for ${title}`,
-                (bytes.toString("latin1").match(/\/Type\s*\/Page\b(?!s)/g) || []).length, 1);
-        }
-        await page.send("Emulation.setEmulatedMedia", { media: "print" });
-        const [text, boards, dice, others] = await page.value(`[document.getElementById("printed").innerText.replace(/\\s+/g, " "),
-            [...document.querySelectorAll("#printed .small")].filter((board) => board.getBoundingClientRect().width > 100).map((board) => board.querySelectorAll("circle.checker").length),
-            document.querySelectorAll("#printed .die").length, [".top", "#rolls", "#coach", "#steering", "#review"].filter((part) => document.querySelector(part)?.offsetHeight > 0)]`);
-        for (const part of [title, ...steps.flatMap((step) => [step.text, step.ask, step.answer])]) {
-            if (!text.includes(part)) wrong(`${title} on paper is without "${part}"`);
-        }
-        equal(`${title} on paper: its boards`, boards,
-            steps.map(({ points }) => points.reduce((sum, count) => sum + count, 0)));
-        equal(`${title} on paper: its dice`, dice, 2 * steps.filter(({ roll }) => roll).length);
-        equal(`${title} on paper: nothing else`, others, []);
+        await pages(page, title, 1);
+        const [text, boards, dice, others] = await printed(page);
+        equal(`${title} on paper`, [boards, dice, others, [title, ...steps.flatMap((step) => [step.text, step.ask, step.answer])]
+            .filter((part) => !text.includes(part))], [steps.map(({ points }) => points.reduce((sum, count) => sum + count, 0)),
+            2 * steps.filter(({ roll }) => roll).length, [], []]);
         await page.close();
     }
-}
-
-// What is open beside the start: each with what is waited for, and what is done then.
-const OPENED = [
-    ["a lesson", "#lesson=3", '#board .source', ""],
-    ["an answer", "#lesson=1", '[data-key="answer"]', `document.querySelector('[data-key="answer"]').click()`],
-    ["a drill", "#drill=all&seed=31&ask=play&level=hard", "#board .source",
-        'document.querySelector("#board .source").dispatchEvent(new MouseEvent("click", { bubbles: true }))'],
-    ["a verdict", "#drill=all&seed=31&ask=play", "#board .source",
-        'document.querySelector(".plays button:last-child").click()'],
-    ["an estimate", "#drill=all&seed=31&ask=wastage", ".estimate input",
-        `document.querySelector('[data-key="tell"]').click()`],
-    ["a refusal", "#at=1,0,0,0,0,0", ".figures", 'location.hash = "#at=0,0,0,0,0,15&lesson=99"',
-        { before: machine(500, { bad: 9, prefix: NO_MEMORY }), then: ".refusal" }],
-    ["a lesson that is made", "#at=0,0,0,1,0,1&p=0,0,0,1,0,1&c=First&p=3,0,0,0,0,0", '[data-key="draft begin"]',
-        `document.querySelector('[data-key="draft begin"]').click()`],
-    ["the embedded view", "#view=board&at=7,4,2,0,0,0", ".figures", ""],
-];
-
-async function driveAudit(browser) {
-    let [compared, labels] = [0, 0];
-    for (const [width, height, mobile] of [[360, 780, true], [1180, 800, false]]) {
-        for (const colours of ["light", "dark"]) {
-            for (const [what, hash, there, act, { before, then = "body" } = {}] of OPENED) {
-                const page = await browser.open(address + hash, { width, height, mobile, colours, before });
-                await page.until(`document.body.dataset.ready && document.querySelector(${JSON.stringify(there)})`);
-                if (act) await page.value(act);
-                await page.until(`document.querySelector(${JSON.stringify(then)})`);
-                await wait(200);
-                const told = await audit(page, false);
-                for (const fault of told.faults) wrong(`${what}, ${width} wide, ${colours}: ${fault}`);
-                compared += told.compared;
-                labels += told.labels;
-                await page.close();
-            }
-        }
-    }
-    for (const [width, height, mobile] of [[360, 780, true], [1180, 800, false]]) {
-        for (const colours of ["light", "dark", "forced"]) {
-            const page = await browser.open(address + TEACHING, { width, height, mobile, colours });
-            await page.until(`${READY} && document.querySelector(".plays") && ${KNOWN}`);
-            const told = await audit(page);
-            for (const fault of told.faults) wrong(`${width} wide, ${colours}: ${fault}`);
-            compared += told.compared;
-            labels += told.labels;
-        }
-    }
-    console.log(`page: ${compared} contrasts and ${labels} names were compared`);
 }
 
 // What is wrong in what an open page draws, read back from it: texts that are cut off, lie over
@@ -1652,33 +1610,32 @@ const LAID_OUT = `(() => {
     return { faults: [...new Set(faults)], counts };
 })()`;
 
-// What is pictured: the name, the address, what is waited for, what is done then, and what is waited for after that.
+const ALL_SIZES = [[360, 780], [1180, 800], [320, 568], [844, 390], [1280, 800], [1920, 1080]];
+
+// What is pictured: the name, the address, what is waited for, what is done then, and what is waited for after that; and
+// what else there is of it: what runs before, and in which sizes it is looked at beside the first two.
 const PICTURED = [
     ["start", TEACHING, ".plays .cost", ""],
     ["lesson", "#lesson=3", "#board .source", ""],
+    ["answer", "#lesson=1", keyed("answer"), click("answer")],
     ["beginning", "#at=0,0,0,3,5,7&roll=22", ".plays .cost", ""],
-    ["beginning lesson", "#lesson=16", '[data-key="answer"]', `document.querySelector('[data-key="answer"]').click()`,
-        ".figures"],
-    ["beginning play", "#lesson=16&step=4", "#board .source",
-        `document.querySelector("#board .source").dispatchEvent(new MouseEvent("click", { bubbles: true }))`,
-        "#board .target"],
-    ["drill", "#drill=all&seed=31&ask=play&level=hard", "#board .source",
-        `document.querySelector(".plays button:last-child").click()`, "#reasons figure"],
-    ["estimate", "#drill=all&seed=31&ask=effective", ".estimate input",
-        `document.querySelector(".estimate input").value = "40"; document.querySelector('[data-key="tell"]').click()`,
-        "#numbers .verdict"],
-    ["estimating", "#lesson=17&step=4", ".worth .now",
-        `document.querySelector(".estimate input").value = "57"; document.querySelector('[data-key="tell"]').click()`,
-        "#coach .verdict"],
+    ["beginning lesson", "#lesson=16", keyed("answer"), click("answer"), ".figures"],
+    ["beginning play", "#lesson=16&step=4", "#board .source", touchBoard, "#board .target"],
+    ["question", "#drill=all&seed=31&ask=play&level=hard", "#board .source", touchBoard, "#board .target", { sizes: ALL_SIZES }],
+    ["drill", "#drill=all&seed=31&ask=play&level=hard", "#board .source", playLast, "#reasons figure", { sizes: ALL_SIZES }],
+    ["estimate", "#drill=all&seed=31&ask=effective", ".estimate input", write("estimate", "40", "tell"), "#numbers .verdict"],
+    ["no estimate", "#drill=all&seed=31&ask=wastage", ".estimate input", click("tell"), "#estimate-why p"],
+    ["estimating", "#lesson=17&step=4", ".worth .now", write("estimate", "57", "tell"), "#coach .verdict"],
     ["own rule", "#lesson=17&step=6", ".worth .now", "scrollTo(0, 400)"],
-    ["both sides", "#at=1,0,0,0,0,0", ".figures",
-        `document.getElementById("counts").value = "XGID=-ABC--D------------a-b--c-:0:0:-1:12:0:0:0:0:10"; document.getElementById("counts").dispatchEvent(new Event("change"))`, ".sides"],
-    ["guess", "#at=2,2,2,2,2,2&roll=31&guess=1", "#board .source",
-        `document.querySelector("#board .source").dispatchEvent(new MouseEvent("click", { bubbles: true }))`,
-        "#board .target"],
+    ["both sides", "#at=1,0,0,0,0,0", ".figures", `document.getElementById("counts").value =
+        "XGID=-ABC--D------------a-b--c-:0:0:-1:12:0:0:0:0:10"; document.getElementById("counts").dispatchEvent(new Event("change"))`,
+    ".sides"],
+    ["refusal", "#at=1,0,0,0,0,0", ".figures", 'location.hash = "#at=0,0,0,0,0,15&lesson=99"', ".refusal",
+        { before: machine(500, { bad: 9, prefix: NO_MEMORY }) }],
+    ["guess", "#at=2,2,2,2,2,2&roll=31&guess=1", "#board .source", touchBoard, "#board .target"],
     ["editor", "#at=0,0,0,1,0,1&t=Two checkers&p=0,0,0,1,0,1&c=Four and six&p=3,0,0,0,0,0&c=Three on the ace point",
-        '[data-key="draft begin"]', `document.querySelector('[data-key="draft begin"]').click()`, "#draft label"],
-    ["home", "", '[data-key="lesson 1"]', `document.querySelector('[data-key="all that is kept"]').click()`],
+        keyed("draft begin"), click("draft begin"), "#draft label"],
+    ["home", "", keyed("lesson 1"), click("all that is kept")],
     ["words", "#lesson=1", ".words summary", 'document.querySelector(".words summary").click()'],
     ["review", "#list=2,2,2,2,2,2,31.0,0,0,1,0,1,52&ask=play", "#board .source", `(async () => {
         while (!document.querySelector(".reviewed")) {
@@ -1686,11 +1643,15 @@ const PICTURED = [
             await new Promise((keep) => setTimeout(keep, 50));
             document.querySelector('[data-key="next question"]')?.click();
         }
-    })()`, ".reviewed .signs"],
-    ["teacher", "#teacher", '[data-key="sheet"]', `document.querySelector('[data-key="positions"]').value = "2,2,2,2,2,2 31\\n0,0,0,1,0,1 52"; document.querySelector('[data-key="sheet"]').click()`, ".key li"],
-    ["games", "#games", '[data-key="read match"]', `document.querySelector('[data-key="match text"]').value = ${JSON.stringify(
-        readFileSync(join(ROOT, "python/tests/matches/short.mat"), "utf8"))}; document.querySelector('[data-key="read match"]').click()`,
-        "body:has(#bar[hidden]) #games .reviewed li"],
+    })()`, ".reviewed .signs", { sizes: ALL_SIZES }],
+    ["teacher", "#teacher", keyed("sheet"), write("positions", "2,2,2,2,2,2 31\n0,0,0,1,0,1 52\n1,0,0,0,0,0 65", "sheet"),
+        ".key li", { sizes: ALL_SIZES }],
+    ["results", "#teacher", keyed("show results"), write("results", ["Ada", "Bo with a name as long as names can be, and no longer one"]
+        .map((name) => `bearoff result 1\ndrill all 7 play hard\nname ${name}\nlost 0 56 120\nplayed 6/off, 5/1 4/2, 6/2(2) 5/1(2)`)
+        .join("\n"), "show results"), ".pupils.questions", { sizes: ALL_SIZES }],
+    ["games", "#games", keyed("read match"), write("match text",
+        readFileSync(join(ROOT, "python/tests/matches/short.mat"), "utf8"), "read match"),
+    "body:has(#bar[hidden]) #games .reviewed li", { sizes: ALL_SIZES }],
     ["print", "#lesson=3", "#printed h2", "print"],
     ["embedded", "#view=board&at=7,4,2,0,0,0", ".figures", ""],
 ];
@@ -1704,7 +1665,7 @@ const WORDS_THERE = `[...document.querySelectorAll("h1, h2, h3, label, button, #
 // lies over something else, or is too faint to read. The start is looked at in more widths and
 // colours.
 async function takePictures(browser) {
-    const all = { texts: 0, things: 0, shapes: 0, contrasts: 0 };
+    const all = { texts: 0, things: 0, shapes: 0, contrasts: 0, names: 0 };
     const sums = [];
     const look = async (page, name) => {
         const { faults, counts } = await page.value(LAID_OUT);
@@ -1712,25 +1673,31 @@ async function takePictures(browser) {
         for (const [what, count] of Object.entries(counts)) all[what] += count;
         if (pictures) writeFileSync(join(pictures, `${name.replaceAll(" ", "-")}.png`), await page.picture(false));
     };
-    for (const [what, hash, there, act, then = "body"] of PICTURED) {
-        for (const [width, height] of [[360, 780], [1180, 800]]) {
-            const name = `${what} ${width}`;
+    const audited = async (page, name, isStart) => {
+        const { faults, compared, labels } = await audit(page, isStart);
+        for (const fault of faults) wrong(`${name}: ${fault}`);
+        all.contrasts += compared;
+        all.names += labels;
+    };
+    for (const [what, hash, there, act, then = "body", { before, sizes = ALL_SIZES.slice(0, 2) } = {}] of PICTURED) {
+        for (const [[width, height], colours] of sizes.flatMap((size) => [[size, "light"], [size, "dark"]])) {
+            const isFirst = colours === "light" && ALL_SIZES.slice(0, 2).some(([wide]) => wide === width);
+            const name = `${what} ${width}${isFirst ? "" : ` ${colours}`}`;
             const page = await browser.open(address + encodeURI(decodeURI(hash)),
-                { width, height, mobile: width < 900 });
+                { width, height, colours, before, mobile: width < 900 });
             await page.until(`document.body.dataset.ready && document.querySelector(${JSON.stringify(there)})`);
             if (act === "print") await page.send("Emulation.setEmulatedMedia", { media: "print" });
             else if (act) await page.value(act);
             await page.until(`document.querySelector(${JSON.stringify(then)}) && !(document.querySelector("#numbers, #steering")?.textContent.includes("\u2026"))`);
             await wait(200);
-            await look(page, name);
-            if (OF_DOCS[name]) {
+            if (colours === "light") await look(page, name);
+            else if (pictures && process.env.DARK) writeFileSync(join(pictures, `${name.replaceAll(" ", "-")}.png`), await page.picture(false));
+            if (isFirst && OF_DOCS[name]) {
                 const sum = createHash("sha256").update(await page.value(WORDS_THERE)).digest("hex");
                 sums.push(`${OF_DOCS[name]}.png ${sum.slice(0, 16)}`);
             }
             equal(`${name}: nothing stands out`, await page.value("document.documentElement.scrollWidth"), width);
-            const { faults, compared } = await audit(page, false);
-            for (const fault of faults) wrong(`${name}: ${fault}`);
-            all.contrasts += compared;
+            await audited(page, name, false);
             await page.close();
         }
     }
@@ -1740,6 +1707,7 @@ async function takePictures(browser) {
             await page.until(`${READY} && document.querySelector(".plays") && ${KNOWN}`);
             equal(`nothing stands out at ${width}, ${colours}`,
                 await page.value("document.documentElement.scrollWidth"), width);
+            await audited(page, `${width} wide, ${colours}`);
             if (pictures) writeFileSync(join(pictures, `${width}-${colours}.png`), await page.picture(false));
             if (pictures) writeFileSync(join(pictures, `${width}-${colours}-whole.png`), await page.picture(true));
             await page.close();
@@ -1747,7 +1715,7 @@ async function takePictures(browser) {
     }
     if (pictures) writeFileSync(join(pictures, "pictures.txt"), `${sums.sort().join("\n")}\n`);
     else equal("the pictures of docs/ are of this page", sums.sort().join("\n"), readFileSync(join(ROOT, "docs/pictures.txt"), "utf8").trim());
-    console.log(`page: ${all.texts} texts, ${all.things} things to press and ${all.shapes} shapes were in their places, and ${all.contrasts} contrasts enough`);
+    console.log(`page: ${all.texts} texts, ${all.things} things to press and ${all.shapes} shapes were in their places, ${all.contrasts} contrasts enough, and ${all.names} names right`);
 }
 
 // The parts in which Chromium alone is driven, since a script runs first there and media are set.
@@ -1761,8 +1729,8 @@ const OWN = {
     },
     wider: driveWider, moments: driveMoments, older: driveOlder, hosted: driveHosted, touch: driveTouch,
         finger: driveFinger, print: drivePrint,
-    audit: driveAudit, pictures: takePictures, drill: driveDrill, sight: driveSight, lessons: driveLessons,
-        still: driveStill, clicks: driveClicks, games: driveGames,
+    pictures: takePictures, drill: driveDrill, sight: driveSight, lessons: driveLessons,
+        still: driveStill, clicks: driveClicks, games: driveGames, session: driveSession,
 };
 
 // Those in which each browser is.

@@ -10,7 +10,7 @@ import {
 import { drawQuestions, drillOf, mostOf, readDue, TEN, writeDue } from "../../web/questions.js";
 import { positions, themeOf, THEMES } from "../../web/themes.js";
 import { readLink, writeLink } from "../../web/link.js";
-import { ROLLS } from "../../web/rolls.js";
+import { ROLLS } from "../../web/points.js";
 import { drawFrom } from "./stand_in.mjs";
 
 const question = (number = 0, theme = "all") =>
@@ -94,7 +94,7 @@ test("bounds: the best known and cheapest are forgotten, and the oldest days", (
     assert.deepEqual([memory.cards.length, memory.days.length, memory.days[0][0]],
         [MOST_CARDS, MOST_DAYS, 1500 - MOST_DAYS]);
     assert.ok(memory.cards.every(({ lost, box }) => lost > 150 && box === 0));
-    assert.ok(written(memory).length < 40000);
+    assert.deepEqual([written(memory).length < 40000, readMemory(written(memory)).fault], [true, ""]);
     const cards = Array.from({ length: 301 },
         (_, place) => `card ${place % 15},1,0,0,0,0 ${ROLLS[Math.floor(place / 15)].join("")} all 0 7 ${1 + place}`);
     assert.deepEqual([faultOf(...cards), readMemory(["bearoff memory 1", ...cards].join("\n")).memory.cards.length],

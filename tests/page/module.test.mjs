@@ -8,8 +8,7 @@ import { join } from "node:path";
 import { gunzipSync, gzipSync } from "node:zlib";
 import { playsOf } from "../../web/answers.js";
 import { decimalOf } from "../../web/fractions.js";
-import { readPoints, sumOf } from "../../web/points.js";
-import { ROLLS } from "../../web/rolls.js";
+import { readPoints, ROLLS, sumOf } from "../../web/points.js";
 import { decimal, FAULTS, notation } from "../../web/texts.js";
 import { drillOf, followingOf, kindsOf } from "../../web/questions.js";
 import { ADDITIONS } from "../../web/rules.js";
@@ -417,6 +416,14 @@ part("drills", async () => {
         .map(({ name }) => name), ["board", "fifteen", "stacks"]);
     equal("a drill is the same in both", JSON.stringify(drawn(whole.database, drill)),
         JSON.stringify(drawn(large.database, drill)));
+});
+part("the key of a class's drill", async () => {
+    for (const [ask, ...wanted] of [["play", "6/1 4/2; the next loses 0.056", "1/off: the only play"],
+        ["pips", "10", "1"], ["effective", "15.106", "8.167"], ["wastage", "5.106", "7.167"]]) {
+        const list = [[[0, 0, 0, 1, 0, 1], [5, 2]], [[1, 0, 0, 0, 0, 0], [6, 5]]]
+            .map(([points, roll]) => ({ points, roll: ask === "play" ? roll : null }));
+        equal(ask, (await large.take({ kind: "sheet", drill: drillOf({ ask, list }) })).key, wanted);
+    }
 });
 part("drills of each level", () => compareLevels(large.database));
 part("drills of each level, of the whole board", () => compareLevels(whole.database));

@@ -6,7 +6,7 @@ import { join } from "node:path";
 import { Database } from "../../js/database.js";
 import { choicesOf } from "../../web/answers.js";
 import { drawQuestions } from "../../web/questions.js";
-import { ROLLS } from "../../web/rolls.js";
+import { ROLLS } from "../../web/points.js";
 import { positions, THEMES } from "../../web/themes.js";
 import { reasonsOf } from "../../web/why.js";
 import { effectOf, equal, modulesFolder, part, wrong } from "./given.mjs";

@@ -11,11 +11,11 @@ import {
 } from "../../web/memory.js";
 import { ASKED, drillOf, ESTIMATED, MOST_LISTED, MOST_LOST, QUESTIONS, readDue, TEN, writeDue } from "../../web/questions.js";
 import { classOf, readResults, writeResult } from "../../web/results.js";
-import { ROLLS } from "../../web/rolls.js";
+import { ROLLS } from "../../web/points.js";
 import { readWeight } from "../../web/rules.js";
 import { begin, picksOf, withPicks } from "../../web/state.js";
 import { beginDraft, draftText, titleDraft, writeDraft as typeDraft } from "../../web/state/draft.js";
-import { keep, setCaption } from "../../web/state/shelf.js";
+import { keep, setCaption } from "../../web/state/board.js";
 import { student } from "../../web/student.js";
 import { decimal } from "../../web/texts.js";
 import { LADDER, ladderOf, levelsOf, THEMES } from "../../web/themes.js";

@@ -1,11 +1,12 @@
-// What is done with the board: its position, a roll, and the play that is made or looked at.
+// What is done with the board: its position, a roll, the play that is made or looked at, and the
+// positions that are kept.
 import { Dragging } from "../dragging.js";
 import {
-    addCheckers, choosePlay, chooseRoll, playOn, pressed, setPoints, stopAt, touch, typePosition,
-    undo,
+    addCheckers, choosePlay, chooseRoll, keep, playOn, pressed, remove, setCaption, setPoints, stopAt,
+    touch, typePosition, undo,
 } from "../state/board.js";
 import { triedAgain } from "../state/database.js";
-import { hasBegun, makingOf, modeOf } from "../state/reads.js";
+import { hasBegun, makingOf, modeOf, orderOf } from "../state/reads.js";
 
 export function boardActions({
     session, change, document, window, focus, focusOn, onBoard, isWithin,
@@ -87,5 +88,20 @@ export function boardActions({
             if (wasWithin && roll) focus(`roll ${roll.join("")}`);
         },
         stop: (group, key) => change(stopAt, group, key),
+        keep: () => change(keep),
+        show(points) {
+            change(setPoints, points);
+            document.getElementById("board").scrollIntoView({ block: "nearest" });
+        },
+        caption: (key, caption) => change(setCaption, key, caption),
+        // the focus goes to the row that takes the place of the one that was removed
+        remove(key) {
+            const keys = orderOf(session.state).map(({ points }) => points.join());
+            const place = keys.indexOf(key);
+            change(remove, key);
+            const next = keys[place + 1] || keys[place - 1];
+            if (next) focus(`remove ${next}`);
+            else document.getElementById("keep").focus();
+        },
     };
 }

@@ -1,5 +1,6 @@
 // What is done with a lesson that is made on the page.
-import { saveAs } from "../saving.js";
+import { copied } from "./focus.js";
+import { saveAs } from "../picture.js";
 import {
     addDraft, beginDraft, closeDraft, draftText, moveDraft, removeDraft, tellDraft, titleDraft,
     writeDraft,
@@ -41,11 +42,8 @@ export function draftActions({ session, change, document, window, focusOn }) {
         copyDraft: () => withDraft(async (text) => {
             const page = window.location.href.replace(/#.*/, "");
             const href = `${page}#${new URLSearchParams({ text })}`;
-            const told = await window.navigator.clipboard.writeText(href)
-                .then(() => "The link of the lesson is copied.",
-                () => "The browser lets this page copy nothing: try the lesson, and copy its "
-                    + "address.");
-            change(tellDraft, told);
+            change(tellDraft, await copied(window, href, "The link of the lesson is copied.",
+                "The browser lets this page copy nothing: try the lesson, and copy its address."));
         }),
         saveDraft: () => withDraft((text) => {
             saveAs(document, window, new window.Blob([text], { type: "text/plain" }), "lesson.txt");

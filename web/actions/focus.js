@@ -1,4 +1,13 @@
-// Where the focus goes after something was done.
+// Where the focus goes after something was done, and what comes of a text that is copied.
+export async function copied(window, text, told, otherwise) {
+    try {
+        await window.navigator.clipboard.writeText(text);
+        return told;
+    } catch {
+        return otherwise;
+    }
+}
+
 export function focusing(document) {
     const keyed = (key) => document.querySelector(`[data-key="${key}"]`);
     return {

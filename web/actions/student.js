@@ -1,4 +1,5 @@
 // What is done by a student who comes back, and with what is kept of what was answered.
+import { copied } from "./focus.js";
 import { readMemory, written } from "../memory.js";
 import { openMemory, refuseMemory, withMemory } from "../state.js";
 import { beginEstimates, beginToday } from "../state/training.js";
@@ -16,10 +17,9 @@ export function studentActions({ session, change, document, window, store, today
         openMemory: () => change(openMemory),
         async copyMemory() {
             const { memory, day, unkept } = session.state;
-            const told = await window.navigator.clipboard.writeText(written(memory))
-                .then(() => "The text is copied.",
-                () => "The browser lets this page copy nothing: copy the text from the field.");
-            change(withMemory, memory, day, unkept, told);
+            change(withMemory, memory, day, unkept, await copied(window, written(memory),
+                "The text is copied.",
+                "The browser lets this page copy nothing: copy the text from the field."));
         },
         // a text that was taken along takes the place of what is kept
         takeMemory() {

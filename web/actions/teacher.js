@@ -1,4 +1,5 @@
 // What a teacher does: a drill for a class, its link and its sheet.
+import { copied } from "./focus.js";
 import { linkOf } from "../link.js";
 import { drillOf, readSeed } from "../questions.js";
 import { readPositions, refuseSheet, showSheet, tellSheet } from "../state/teacher.js";
@@ -26,10 +27,8 @@ export function teacherActions({ session, change, document, window, focusOn, any
         openClass: () => withDrill((drill) => change(beginDrill, drill)),
         copyClass: () => withDrill(async (drill) => {
             const href = window.location.href.replace(/#.*/, "") + linkOf(drill);
-            const told = await window.navigator.clipboard.writeText(href)
-                .then(() => "The link of the class is copied.",
-                () => `The browser lets this page copy nothing. The link: ${href}`);
-            change(tellSheet, told);
+            change(tellSheet, await copied(window, href, "The link of the class is copied.",
+                `The browser lets this page copy nothing. The link: ${href}`));
         }),
         sheet: () => withDrill((drill) => change(showSheet, drill)),
         print: () => window.print(),

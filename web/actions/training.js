@@ -1,4 +1,5 @@
 // What is done where one trains: in a lesson, a drill and an estimate, and with a class's results.
+import { copied } from "./focus.js";
 import { writeResult } from "../results.js";
 import { drillOfLesson } from "../rooms.js";
 import { lostInEach, playedInEach } from "../state/reads.js";
@@ -69,10 +70,8 @@ export function trainingActions({
             }
             const [lost, played] = [lostInEach, playedInEach].map((each) => each(session.state));
             const text = writeResult(drill, name, lost, played);
-            const told = await window.navigator.clipboard.writeText(text)
-                .then(() => "The result is copied: send it back.",
-                () => `The browser lets this page copy nothing. The result: ${text}`);
-            change(tellResult, told);
+            change(tellResult, await copied(window, text, "The result is copied: send it back.",
+                `The browser lets this page copy nothing. The result: ${text}`));
         },
     };
 }

@@ -1,10 +1,12 @@
-// What changes on the board: its position, the roll, and the play that is made or looked at.
-import { readTyped } from "../link.js";
+// What changes on the board: its position, the roll, the play that is made or looked at, and the
+// positions that are kept beside it.
+import { LONGEST_CAPTION, readTyped } from "../link.js";
 import { MOST_CHECKERS } from "../points.js";
 import {
-    byLoss, chosenOf, freeOf, heardPlay, heardPlays, keyOf, makingOf, modeOf, shownPlay, spoken,
-    verdictOf,
+    byLoss, chosenOf, freeOf, heardPlay, heardPlays, isFull, isKept, keyOf, makingOf, modeOf,
+    shownPlay, spoken, verdictOf,
 } from "./reads.js";
+import { oneLine } from "../texts.js";
 
 // A digit that follows another one within so many milliseconds is its second.
 const DIGITS_APART = 1000;
@@ -141,4 +143,27 @@ export function playOn(state) {
 export function stopAt(state, group, key) {
     return state.stops[group] === key
         ? state : { ...state, stops: { ...state.stops, [group]: key } };
+}
+
+// Keeps the board's position.
+export function keep(state) {
+    if (isKept(state) || isFull(state)) return state;
+    return {
+        ...state, kept: [...state.kept, { points: state.points, caption: "" }],
+        said: "The position is kept.",
+    };
+}
+
+export function remove(state, key) {
+    const kept = state.kept.filter(({ points }) => keyOf(points) !== key);
+    return kept.length === state.kept.length
+        ? state : { ...state, kept, said: "The position is removed." };
+}
+
+export function setCaption(state, key, typed) {
+    const caption = oneLine(typed, LONGEST_CAPTION);
+    return {
+        ...state, kept: state.kept.map((entry) =>
+            (keyOf(entry.points) === key ? { ...entry, caption } : entry)),
+    };
 }

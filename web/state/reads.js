@@ -3,9 +3,8 @@
 // one alone; so nothing of a former position can be shown.
 import { decimalOf, inPips, inSentence, sumOfFractions } from "../fractions.js";
 import { MOST_KEPT, PAGES } from "../link.js";
-import { GREATEST, inWords, MOST_CHECKERS, sumOf } from "../points.js";
+import { GREATEST, inWords, MOST_CHECKERS, sameRoll, sumOf } from "../points.js";
 import { FAR, WANTED, writeDue } from "../questions.js";
-import { sameRoll } from "../rolls.js";
 import { isMiss } from "../rules.js";
 import { isWhole, reachedBy, ways } from "../steps.js";
 import { decimal } from "../texts.js";
