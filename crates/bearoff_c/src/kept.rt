@@ -6,7 +6,7 @@ ghost use Rattle.bearoff_c.specs.Refusals.{open_refusal, refusal_in};
 
 use crate::opened::OpenedFile;
 use crate::statuses::Refusal;
-use db_layout::{BOARD_VERSION, BoardHeader};
+use db_layout::BOARD_VERSION;
 use epc_query::{Accepted, Board, Database};
 use ranking::RankTable;
 
@@ -47,16 +47,13 @@ impl<'a> File<'a> {
         if !self.is_open {
             return Err(Refusal::NotOpen);
         }
+        let accepted = Accepted {
+            version: self.version,
+            bound: self.bound,
+        };
         if self.version != BOARD_VERSION {
-            let accepted = Accepted {
-                version: self.version,
-                bound: self.bound,
-            };
             return Ok(OpenedFile::Database(Database::kept(self.bytes, accepted, &self.ranks)));
         }
-        match BoardHeader::new(self.bound) {
-            Some(header) => Ok(OpenedFile::Board(Board::accepted(self.bytes, header, &self.ranks))),
-            None => Err(Refusal::Changed),
-        }
+        Ok(OpenedFile::Board(Board::kept(self.bytes, accepted, &self.ranks)))
     }
 }

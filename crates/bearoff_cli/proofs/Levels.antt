@@ -3,17 +3,19 @@ use Rattle.std.proofs.Common.{ℕ, suc, List, [], ◌∷◌, ◌++◌, Option, r
 use Rattle.std.proofs.lemmas.List.{append-nil}
 use Rattle.std.specs.Io.KnownBytes.{Appends, Keeps}
 use Rattle.db_layout.proofs.Known.{appends_none, appends_kept, appends_twice}
-use Rattle.epc_query.specs.AnyFiles.{AnyFile}
+use Rattle.db_layout.specs.declared.stated.Kind.{Kind}
 use Rattle.bearoff_cli.specs.FileAnswers.{WritesLevel, WritesLevels}
 
 -- of no pip counts there is none
-pub no_levels : (file : AnyFile) (old : Option (List ℕ)) → WritesLevels file 0 old old
-no_levels file old = record { lines = []; levels = refl; written = appends_none old }
+pub no_levels : (kind : Kind) (file : List ℕ) (old : Option (List ℕ))
+    → WritesLevels kind file 0 old old
+no_levels kind file old = record { lines = []; levels = refl; written = appends_none old }
 
 -- the line of the next pip count
-pub next_level : (file : AnyFile) (p : ℕ) (old mid new : Option (List ℕ))
-    → WritesLevels file p old mid → WritesLevel file p mid new → WritesLevels file (suc p) old new
-next_level file p old mid new before next = record {
+pub next_level : (kind : Kind) (file : List ℕ) (p : ℕ) (old mid new : Option (List ℕ))
+    → WritesLevels kind file p old mid → WritesLevel kind file p mid new
+    → WritesLevels kind file (suc p) old new
+next_level kind file p old mid new before next = record {
   lines = before.lines ++ (next.line ++ 10 ∷ []);
   levels = (before.lines, next.line, before.levels, next.is, refl);
   written = appends_twice old mid new before.lines (next.line ++ 10 ∷ []) before.written
@@ -28,9 +30,9 @@ appends_then_kept old mid new bytes grown kept =
     (appends_twice old mid new bytes [] grown (appends_kept mid new kept))
 
 -- lines were written, and then nothing
-pub levels_then_kept : (file : AnyFile) (count : ℕ) (old mid new : Option (List ℕ))
-    → WritesLevels file count old mid → Keeps mid new → WritesLevels file count old new
-levels_then_kept file count old mid new written kept = record {
+pub levels_then_kept : (kind : Kind) (file : List ℕ) (count : ℕ) (old mid new : Option (List ℕ))
+    → WritesLevels kind file count old mid → Keeps mid new → WritesLevels kind file count old new
+levels_then_kept kind file count old mid new written kept = record {
   lines = written.lines;
   levels = written.levels;
   written = appends_then_kept old mid new written.lines written.written kept;

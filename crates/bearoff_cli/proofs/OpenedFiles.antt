@@ -1,6 +1,6 @@
 -- What was read of a reader that tells what it has left.
-use Rattle.std.proofs.Common.{◌≡◌, ℕ, suc, ◌≤◌, List, [], ◌∷◌, take, length, Option, Some, Result, Ok, Err, IfOk, IfErr}
-use Rattle.std.proofs.Common.{refl, subst, sym, arith}
+use Rattle.std.proofs.Common.{◌≡◌, ℕ, suc, ◌≤◌, List, [], ◌∷◌, take, length, Option, None, Some, Result, Ok, Err, IfOk}
+use Rattle.std.proofs.Common.{IfErr, refl, subst, sym, arith}
 use Rattle.std.proofs.lemmas.List.{take_all, take-append-le}
 use Rattle.std.specs.Io.KnownBytes.{Appends, Consumes, IsAtEnd}
 use Rattle.std.specs.Prelude.{OnErr, OnOk, true, is_err}
@@ -8,7 +8,6 @@ use Rattle.race_model.specs.Ranks.{count_to}
 use Rattle.race_model.specs.Versions.{Version, full, compact, version_number}
 use Rattle.race_model.specs.Files.{version_of, bound_of}
 use Rattle.race_model.specs.RightFiles.{IsRightDatabase}
-use Rattle.epc_query.specs.AnyFiles.{AnyFile, bound_by, IsRightBy}
 use Rattle.db_reader.specs.Telling.{WhereTold}
 use Rattle.certificate.specs.Upgrades.{WritesUpgrade}
 use Rattle.race_model.specs.InputLines.{lines_of}
@@ -19,8 +18,8 @@ use Rattle.whole_file.specs.Paths.{Paths, ReadsBehind}
 use Rattle.bearoff_cli.proofs.Requests.{IsNot}
 use Rattle.bearoff_cli.specs.FileAnswers.{AreAnswered, AreAnsweredFrom, IsHandedTo, IsReadFrom, SaysAbout, SaysLevels}
 use Rattle.bearoff_cli.specs.FileAnswers.{SaysRight, SaysUpgraded, WritesLevels, about_file, about_text, count_line}
-use Rattle.bearoff_cli.specs.FileAnswers.{version_in}
-use Rattle.bearoff_cli.specs.Kinds.{stated_file, stated_kind}
+use Rattle.epc_query.specs.Kinds.{IsRightAs, book_as, version_as}
+use Rattle.bearoff_cli.specs.Kinds.{kind_as, stated_kind}
 use Rattle.db_layout.specs.declared.stated.Kind.{Kind}
 use Rattle.bearoff_cli.specs.declared.act.Done.TheVariants.{Checked, Upgraded}
 
@@ -58,24 +57,24 @@ read_of remaining paths path told file items (Ok v) reads read = (
 read_of remaining paths path told file items (Err e) reads read = tt
 
 -- the levels of what was read
-pub levels_read : {A E : Type 0} (kind : List ℕ → AnyFile) (From : List ℕ → Type 0)
+pub levels_read : {A E : Type 0} (kind : Option Kind) (From : List ℕ → Type 0)
     (file : List ℕ) (old new : Option (List ℕ)) (r : Result A E) → From file
-    → IsRightBy (kind file)
-    → OnOk r (WritesLevels (kind file) (suc (bound_by (kind file))) old new)
+    → IsRightAs (kind_as kind file) file
+    → OnOk r (WritesLevels (kind_as kind file) file (suc (bound_of file)) old new)
     → OnOk r (SaysLevels kind From old new)
 levels_read kind From file old new (Ok x) read right levels =
     record { file = file; read = read; right = right; levels = levels }
 levels_read kind From file old new (Err e) read right levels = tt
 
 -- the replies over a right file
-pub are_answered : {E : Type 0} (file : AnyFile) (given : List ℕ) (left old new : Option (List ℕ))
-    (r : Result ℕ E) → IsRightBy file
+pub are_answered : {E : Type 0} (kind : Kind) (file given : List ℕ) (left old new : Option (List ℕ))
+    (r : Result ℕ E) → IsRightAs kind file
     → IfOk r (λ n. IsAtEnd left × (n ≡ length (lines_of given))
-    × HasReplies file (lines_of given) old new)
-    → IfOk r (λ _. AreAnswered file given left old new)
-are_answered file given left old new (Ok n) right is =
+    × HasReplies (book_as kind file) (lines_of given) old new)
+    → IfOk r (λ _. AreAnswered kind file given left old new)
+are_answered kind file given left old new (Ok n) right is =
     record { right = right; end = is.0; replies = is.2 }
-are_answered file given left old new (Err e) right is = tt
+are_answered kind file given left old new (Err e) right is = tt
 
 -- three things that hold at Ok
 pub all_ok : {A E : Type 0} (r : Result A E) (P Q R : Type 0) → OnOk r P → OnOk r Q → OnOk r R
@@ -84,9 +83,9 @@ all_ok (Ok x) P Q R p q r = (p, q, r)
 all_ok (Err e) P Q R p q r = tt
 
 -- the replies over what was read
-pub over_read : {A E : Type 0} (kind : List ℕ → AnyFile) (From : List ℕ → Type 0)
+pub over_read : {A E : Type 0} (kind : Option Kind) (From : List ℕ → Type 0)
     (file given : List ℕ) (left old new : Option (List ℕ)) (r : Result A E)
-    → From file → IfOk r (λ _. AreAnswered (kind file) given left old new)
+    → From file → IfOk r (λ _. AreAnswered (kind_as kind file) file given left old new)
     → IfOk r (λ _. AreAnsweredFrom kind From given left old new)
 over_read kind From file given left old new (Ok x) read is =
     record { file = file; read = read; answered = is }
@@ -95,8 +94,8 @@ over_read kind From file given left old new (Err e) read is = tt
 -- .. to lines that are words, which were all read then
 pub words_answered : {A E : Type 0} (From : List ℕ → Type 0) (given : List ℕ)
     (left old new : Option (List ℕ)) (r : Result A E)
-    → OnOk r (WhereTold (Some given) (λ text. AreAnsweredFrom stated_file From text left old new))
-    → OnOk r (AreAnsweredFrom stated_file From given (Some []) old new)
+    → OnOk r (WhereTold (Some given) (λ text. AreAnsweredFrom None From text left old new))
+    → OnOk r (AreAnsweredFrom None From given (Some []) old new)
 words_answered From given left old new (Ok x) is =
     let it = is given refl in record {
       file = it.file;
@@ -168,9 +167,9 @@ on_ok (Ok x) P h = h
 on_ok (Err e) P h = tt
 
 -- the line of what was read and checked
-pub says_right : {A E : Type 0} (kind : List ℕ → AnyFile) (From : List ℕ → Type 0) (file : List ℕ)
-    (pips : ℕ) (old new : Option (List ℕ)) (r : Result A E) → From file → IsRightBy (kind file)
-    → pips ≡ bound_by (kind file)
+pub says_right : {A E : Type 0} (kind : Option Kind) (From : List ℕ → Type 0) (file : List ℕ)
+    (pips : ℕ) (old new : Option (List ℕ)) (r : Result A E) → From file
+    → IsRightAs (kind_as kind file) file → pips ≡ bound_of file
     → OnOk r (Appends old new (count_line Checked pips (count_to pips)))
     → OnOk r (SaysRight kind From old new)
 says_right kind From file pips old new (Ok x) read right same h = record {
@@ -183,17 +182,17 @@ says_right kind From file pips old new (Err e) read right same h = tt
 
 -- the lines of what a file is
 pub about_is : (file : List ℕ) (kind : Kind) (version pips : ℕ) → kind ≡ stated_kind file
-    → version ≡ version_in (stated_file file) → pips ≡ bound_by (stated_file file)
+    → version ≡ version_as (stated_kind file) file → pips ≡ bound_of file
     → about_text kind version pips (count_to pips) ≡ about_file file
 about_is file kind version pips k v p =
     subst (λ x. about_text x version pips (count_to pips) ≡ about_file file) (sym k)
     (subst (λ x. about_text (stated_kind file) x pips (count_to pips) ≡ about_file file) (sym v)
-    (subst (λ x. about_text (stated_kind file) (version_in (stated_file file)) x (count_to x)
+    (subst (λ x. about_text (stated_kind file) (version_as (stated_kind file) file) x (count_to x)
     ≡ about_file file) (sym p) refl))
 
 -- .. which were written
 pub says_about : {A E : Type 0} (From : List ℕ → Type 0) (file text : List ℕ)
-    (old new : Option (List ℕ)) (r : Result A E) → From file → IsRightBy (stated_file file)
+    (old new : Option (List ℕ)) (r : Result A E) → From file → IsRightAs (stated_kind file) file
     → text ≡ about_file file → OnOk r (Appends old new text) → OnOk r (SaysAbout From old new)
 says_about From file text old new (Ok x) read right same h = record {
   file = file;

@@ -1,6 +1,6 @@
 -- What stands in the output where a command failed, from what its parts wrote.
-use Rattle.std.proofs.Common.{◌≡◌, ℕ, suc, ◌≤◌, ◌⊎◌, inl, inr, List, ◌∷◌, [], ◌++◌, take, Option, Some, Result, Ok, Err}
-use Rattle.std.proofs.Common.{IfErr, refl, subst, arith}
+use Rattle.std.proofs.Common.{◌≡◌, ℕ, suc, ◌≤◌, ◌⊎◌, inl, inr, List, ◌∷◌, [], ◌++◌, take, Option, None, Some, Result}
+use Rattle.std.proofs.Common.{Ok, Err, IfErr, refl, subst, arith}
 use Rattle.std.specs.Prelude.{OnErr}
 use Rattle.std.specs.Io.KnownBytes.{Keeps}
 use Rattle.std.proofs.lemmas.List.{append-nil}
@@ -11,7 +11,10 @@ use Rattle.race_model.proofs.Replies.InputLines.{pieces_stay}
 use Rattle.retrograde.specs.UsualVersion.{usual_version}
 use Rattle.db_layout.specs.Writes.{AppendsPart}
 use Rattle.db_layout.proofs.Known.{appends_kept, appends_twice}
-use Rattle.epc_query.specs.AnyFiles.{AnyFile, database_file, bound_by, IsRightBy}
+use Rattle.race_model.specs.Books.{Book}
+use Rattle.race_model.specs.Files.{bound_of}
+use Rattle.db_layout.specs.declared.stated.Kind.{Kind}
+use Rattle.db_layout.specs.declared.stated.Kind.TheVariants.{Database}
 use Rattle.epc_query.specs.Runs.{HasAnswered, HasPart, HasReplies, IsRunStopped, IsStoppedAt}
 use Rattle.epc_query.specs.declared.run_fault.RunFault.{RunFault}
 use Rattle.epc_query.specs.declared.run_fault.RunFault.TheVariants.{Read, Write, Table, Memory, Turns}
@@ -19,7 +22,8 @@ use Rattle.query_text.proofs.Held.{appends_same, part_after, part_all}
 use Rattle.epc_query.proofs.Runs.{failed_flush, flushed, read_front, stopped_in}
 use Rattle.bearoff_cli.specs.declared.fault.Fault.{Fault}
 use Rattle.bearoff_cli.specs.FileAnswers.{WritesLevels, count_line}
-use Rattle.bearoff_cli.specs.Kinds.{stated_file}
+use Rattle.epc_query.specs.Kinds.{IsRightAs}
+use Rattle.bearoff_cli.specs.Kinds.{kind_as}
 use Rattle.bearoff_cli.specs.StoppedRuns.{AreStopped, IsNothingOr, Leaves, LeavesReplies, WritesLevelsPart}
 use Rattle.bearoff_cli.specs.StoppedRuns.{WritesLevelPart}
 use Rattle.command_line.specs.Asked.{ask}
@@ -27,9 +31,10 @@ use Rattle.bearoff_cli.specs.Faults.{UsesTurns}
 use Rattle.bearoff_cli.specs.declared.act.Done.{Done}
 
 -- whole lines of pip counts are a part of all lines
-pub levels_part : (file : AnyFile) (count : ℕ) (old new : Option (List ℕ))
-    → count ≤ suc (bound_by file) → WritesLevels file count old new → WritesLevelsPart file old new
-levels_part file count old new within written = record {
+pub levels_part : (kind : Kind) (file : List ℕ) (count : ℕ) (old new : Option (List ℕ))
+    → count ≤ suc (bound_of file) → WritesLevels kind file count old new
+    → WritesLevelsPart kind file old new
+levels_part kind file count old new within written = record {
   count = count;
   within = within;
   lines = written.lines;
@@ -38,10 +43,10 @@ levels_part file count old new within written = record {
 }
 
 -- .. and so are they with a part of the next one
-pub levels_and_part : (file : AnyFile) (p : ℕ) (old mid new : Option (List ℕ))
-    → p ≤ bound_by file → WritesLevels file p old mid → WritesLevelPart file p mid new
-    → WritesLevelsPart file old new
-levels_and_part file p old mid new within before next = record {
+pub levels_and_part : (kind : Kind) (file : List ℕ) (p : ℕ) (old mid new : Option (List ℕ))
+    → p ≤ bound_of file → WritesLevels kind file p old mid → WritesLevelPart kind file p mid new
+    → WritesLevelsPart kind file old new
+levels_and_part kind file p old mid new within before next = record {
   count = suc p;
   within = omega (arith, within);
   lines = before.lines ++ (next.line ++ 10 ∷ []);
@@ -60,9 +65,9 @@ line_part old new done bound pips positions p q h =
     (subst (λ n. AppendsPart old new (count_line done n positions)) p h)
 
 -- what was written of a file that was read
-pub read_part : {A : Type 0} (kind : List ℕ → AnyFile) (From : List ℕ → Type 0)
+pub read_part : {A : Type 0} (kind : Option Kind) (From : List ℕ → Type 0)
     (Says : List ℕ → Type 0) (file : List ℕ) (old new : Option (List ℕ)) (r : Result A Fault)
-    → From file → IsRightBy (kind file) → OnErr r (Says file)
+    → From file → IsRightAs (kind_as kind file) file → OnErr r (Says file)
     → OnErr r (IsNothingOr kind From Says old new)
 read_part kind From Says file old new (Ok x) read right says = tt
 read_part kind From Says file old new (Err e) read right says = inr (file, read, right, says)
@@ -74,12 +79,12 @@ may_be_stopped N Stops (Ok x) stops = tt
 may_be_stopped N Stops (Err e) stops = inr stops
 
 -- .. over a file that was read
-pub read_stopped : {A : Type 0} (kind : List ℕ → AnyFile) (From : List ℕ → Type 0)
+pub read_stopped : {A : Type 0} (kind : Option Kind) (From : List ℕ → Type 0)
     (file given : List ℕ) (left old new : Option (List ℕ)) (r : Result A Fault)
     → From file
-    → IfErr r (λ fault. (new ≡ old) ⊎ AreStopped (kind file) given left old new fault)
+    → IfErr r (λ fault. (new ≡ old) ⊎ AreStopped (kind_as kind file) file given left old new fault)
     → IfErr r (λ fault.
-    IsNothingOr kind From (λ f. AreStopped (kind f) given left old new fault) old new)
+    IsNothingOr kind From (λ f. AreStopped (kind_as kind f) f given left old new fault) old new)
 read_stopped kind From file given left old new (Ok x) read stops = tt
 read_stopped kind From file given left old new (Err e) read (inl same) = inl same
 read_stopped kind From file given left old new (Err e) read (inr stops) =
@@ -89,7 +94,7 @@ read_stopped kind From file given left old new (Err e) read (inr stops) =
 pub words_stopped : {A : Type 0} (From : List ℕ → List ℕ → Type 0) (path given : List ℕ)
     (input rest old new : Option (List ℕ)) (r : Result A Fault)
     → IfErr r (UsesTurns (Some given) rest)
-    → IfErr r (LeavesReplies stated_file (From path) (Some given) rest old new)
+    → IfErr r (LeavesReplies None (From path) (Some given) rest old new)
     → IfErr r (Leaves From (ask path given) input input old new)
 words_stopped From path given input rest old new (Ok x) turns leaves = tt
 words_stopped From path given input rest old new (Err e) turns leaves =
@@ -98,15 +103,15 @@ words_stopped From path given input rest old new (Err e) turns leaves =
 -- .. and over the built one
 pub built_stopped : {A : Type 0} (file given : List ℕ) (left old new : Option (List ℕ))
     (r : Result A Fault) → IsBuilt (usual_version 8) 8 file
-    → IfErr r (λ fault. (new ≡ old) ⊎ AreStopped (database_file file) given left old new fault)
+    → IfErr r (λ fault. (new ≡ old) ⊎ AreStopped Database file given left old new fault)
     → IfErr r (λ fault. (new ≡ old) ⊎ ((f : List ℕ) × IsBuilt (usual_version 8) 8 f
-    × AreStopped (database_file f) given left old new fault))
+    × AreStopped Database f given left old new fault))
 built_stopped file given left old new (Ok x) built stops = tt
 built_stopped file given left old new (Err e) built (inl same) = inl same
 built_stopped file given left old new (Err e) built (inr stops) = inr (file, built, stops)
 
 -- a flush that failed leaves the part that was written
-part_kept : (f : AnyFile) (lines : List (List ℕ)) (old mid new : Option (List ℕ))
+part_kept : (f : Book) (lines : List (List ℕ)) (old mid new : Option (List ℕ))
     → HasPart f lines old mid → Keeps mid new → HasPart f lines old new
 part_kept f lines old mid new part kept =
     let front = take part.written.0 part.text in record {
@@ -120,7 +125,7 @@ part_kept f lines old mid new part kept =
     }
 
 -- .. so that the replies are a part of themselves
-replies_part : (f : AnyFile) (lines : List (List ℕ)) (old mid new : Option (List ℕ))
+replies_part : (f : Book) (lines : List (List ℕ)) (old mid new : Option (List ℕ))
     → HasReplies f lines old mid → Keeps mid new → HasPart f lines old new
 replies_part f lines old mid new has kept =
     let now = flushed f lines old mid new has kept in record {
@@ -130,7 +135,7 @@ replies_part f lines old mid new has kept =
     }
 
 -- .. and those to the whole lines of what was read a part of all
-answered_part : (f : AnyFile) (input : List ℕ) (left old mid new : Option (List ℕ))
+answered_part : (f : Book) (input : List ℕ) (left old mid new : Option (List ℕ))
     → HasAnswered f input left old mid → Keeps mid new
     → IsStoppedAt f (lines_of input) old new Write
 answered_part f input left old mid new (done, read, has) kept =
@@ -140,7 +145,7 @@ answered_part f input left old mid new (done, read, has) kept =
     (failed_flush f (whole_lines done) old mid new has kept)
 
 -- answers that stopped, and then a flush that failed, are those to some lines, or a part of them
-pub failed_end : (f : AnyFile) (input : List ℕ) (left old mid new : Option (List ℕ))
+pub failed_end : (f : Book) (input : List ℕ) (left old mid new : Option (List ℕ))
     (cause : RunFault) → IsRunStopped f input left old mid cause → Keeps mid new
     → IsRunStopped f input left old new Write
 failed_end f input left old mid new Read has kept = answered_part f input left old mid new has kept

@@ -14,60 +14,62 @@ use Rattle.certificate.specs.declared.check_fault.CheckFault.TheVariants.{Read a
 use Rattle.epc_query.specs.declared.run_fault.RunFault.{RunFault}
 use Rattle.epc_query.specs.declared.run_fault.RunFault.TheVariants.{Read as InputRead, Write as OutputWrite, Table}
 use Rattle.epc_query.specs.declared.run_fault.RunFault.TheVariants.{Memory as NoMemoryLeft, Turns as NoTurns}
-use Rattle.epc_query.specs.AnyFiles.{AnyFile}
+use Rattle.db_layout.specs.declared.stated.Kind.{Kind}
 use Rattle.bearoff_cli.specs.Causes.{of_check, of_run, of_upgrade}
+use Rattle.bearoff_cli.specs.Kinds.{kind_as}
 use Rattle.bearoff_cli.specs.Lines.{error_line, status_of}
 use Rattle.bearoff_cli.specs.Meanings.{meaning_line, shown}
 use Rattle.bearoff_cli.specs.declared.fault.Fault.{Fault}
 use Rattle.bearoff_cli.specs.declared.fault.Fault.TheVariants.{Open, File, Read, Write, Memory, Turns, OverBound}
 use Rattle.bearoff_cli.specs.declared.fault.Fault.TheVariants.{Refused, NotOld}
 use Rattle.command_line.specs.Asked.{Asked, default, build, check, query, ask, about, audit, upgrade}
-use Rattle.bearoff_cli.specs.Faults.{CanEnd, IsBoundFault, IsFaultIn, IsFirstBy, IsOwnFault, IsFaultOf, UsesTurns}
+use Rattle.bearoff_cli.specs.Faults.{CanEnd, IsBoundFault, IsFaultIn, IsFirstAs, IsOwnFault, IsFaultOf, UsesTurns}
 use Rattle.bearoff_cli.specs.StoppedRuns.{IsBare, IsEndOf, IsOfFile, IsRefusalOf, Leaves, RunsOut}
 use Rattle.bearoff_cli.specs.Tellings.{ExplainsBy, IsExplainedFor, IsReasonOf, IsToldBy, MayTell, Tells}
 use Rattle.bearoff_cli.specs.declared.act.ProgramFault.{ProgramFault}
 use Rattle.bearoff_cli.specs.declared.act.ProgramFault.TheVariants.{Words, Failed, Explained}
 
 -- the first fault that a check found
-pub check_in : (file : AnyFile) (cause : CheckFault) → IsFirstBy file cause
-    → IsFaultIn file (of_check cause)
-check_in file (Header fault) is = is
-check_in file (Play rank roll) is = is
-check_in file (NotLeast rank roll) is = is
-check_in file (Mean rank) is = is
-check_in file (Spread rank k) is = is
-check_in file TableRead is = tt
+pub check_in : (kind : Kind) (file : List ℕ) (cause : CheckFault) → IsFirstAs kind file cause
+    → IsFaultIn kind file (of_check cause)
+check_in kind file (Header fault) is = is
+check_in kind file (Play rank roll) is = is
+check_in kind file (NotLeast rank roll) is = is
+check_in kind file (Mean rank) is = is
+check_in kind file (Spread rank k) is = is
+check_in kind file TableRead is = tt
 
 -- .. as the fault that is told
-pub first_in : (file : AnyFile) (fault : Fault)
-    → (cause : CheckFault) × IsFirstBy file cause × (fault ≡ of_check cause)
-    → IsFaultIn file fault
-first_in file fault (cause, first, is) = rw is (check_in file cause first)
+pub first_in : (kind : Kind) (file : List ℕ) (fault : Fault)
+    → (cause : CheckFault) × IsFirstAs kind file cause × (fault ≡ of_check cause)
+    → IsFaultIn kind file fault
+first_in kind file fault (cause, first, is) = rw is (check_in kind file cause first)
 
 -- what failed is no database
-pub status_in : (file : AnyFile) (fault : Fault) → status_of fault ≡ 1 → IsFaultIn file fault
-status_in file Open is = tt
-status_in file File is = tt
-status_in file Read is = tt
-status_in file Write is = tt
-status_in file Memory is = tt
-status_in file Turns is = tt
-status_in file OverBound is = absurd (omega (arith, is))
-status_in file (Refused cause) is = absurd (omega (arith, is))
-status_in file NotOld is = absurd (omega (arith, is))
+pub status_in : (kind : Kind) (file : List ℕ) (fault : Fault) → status_of fault ≡ 1
+    → IsFaultIn kind file fault
+status_in kind file Open is = tt
+status_in kind file File is = tt
+status_in kind file Read is = tt
+status_in kind file Write is = tt
+status_in kind file Memory is = tt
+status_in kind file Turns is = tt
+status_in kind file OverBound is = absurd (omega (arith, is))
+status_in kind file (Refused cause) is = absurd (omega (arith, is))
+status_in kind file NotOld is = absurd (omega (arith, is))
 
 -- the answers to an input stopped
-pub run_in : (file : AnyFile) (cause : RunFault) → IsFaultIn file (of_run cause)
-run_in file InputRead = tt
-run_in file OutputWrite = tt
-run_in file Table = tt
-run_in file NoMemoryLeft = tt
-run_in file NoTurns = tt
+pub run_in : (kind : Kind) (file : List ℕ) (cause : RunFault) → IsFaultIn kind file (of_run cause)
+run_in kind file InputRead = tt
+run_in kind file OutputWrite = tt
+run_in kind file Table = tt
+run_in kind file NoMemoryLeft = tt
+run_in kind file NoTurns = tt
 
 -- the fault of a file that was read
-pub own_of : {A : Type 0} (kind : List ℕ → AnyFile) (From : List ℕ → Type 0)
+pub own_of : {A : Type 0} (kind : Option Kind) (From : List ℕ → Type 0)
     (file : List ℕ) (r : Result A Fault) → From file
-    → IfErr r (λ fault. IsFaultIn (kind file) fault)
+    → IfErr r (λ fault. IsFaultIn (kind_as kind file) file fault)
     → IfErr r (λ fault. IsOwnFault kind From fault)
 own_of kind From file (Ok x) read is = tt
 own_of kind From file (Err fault) read is = inr (file, read, is)

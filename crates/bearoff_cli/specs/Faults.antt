@@ -7,48 +7,49 @@ use Rattle.race_model.specs.RightFiles.{IsRightDatabase}
 use Rattle.certificate.specs.CheckFaults.{IsFirst, IsFirstOnBoard}
 use Rattle.certificate.specs.declared.check_fault.CheckFault.{CheckFault}
 use Rattle.db_reader.specs.Telling.{WhereTold}
-use Rattle.epc_query.specs.AnyFiles.{AnyFile, database_file, board_file}
+use Rattle.db_layout.specs.declared.stated.Kind.{Kind}
+use Rattle.db_layout.specs.declared.stated.Kind.TheVariants.{Database, Board}
 use Rattle.command_line.specs.Asked.{Asked, default, build, check, query, ask, about, audit, upgrade}
 use Rattle.bearoff_cli.specs.Lines.{status_of}
 use Rattle.bearoff_cli.specs.declared.fault.Fault.{Fault}
 use Rattle.bearoff_cli.specs.declared.fault.Fault.TheVariants.{Open, File, Read, Write, Memory, Turns, OverBound}
 use Rattle.bearoff_cli.specs.declared.fault.Fault.TheVariants.{Refused, NotOld}
-use Rattle.bearoff_cli.specs.Kinds.{file_of, greatest, stated_file}
+use Rattle.bearoff_cli.specs.Kinds.{greatest, kind_as}
 use Rattle.bearoff_cli.specs.declared.files.Unread.{Unread}
 use Rattle.bearoff_cli.specs.declared.files.Unread.TheVariants as unread
 
 -- the first fault of a file
-abbrev pub IsFirstBy : AnyFile → CheckFault → Type 0
-IsFirstBy (database_file f) cause = IsFirst f cause
-IsFirstBy (board_file f) cause = IsFirstOnBoard f cause
+abbrev pub IsFirstAs : Kind → List ℕ → CheckFault → Type 0
+IsFirstAs Database = IsFirst
+IsFirstAs Board = IsFirstOnBoard
 
 -- the file is a right database of version 2
-abbrev pub IsNotOld : AnyFile → Type 0
-IsNotOld (database_file f) = IsRightDatabase f × (version_of f ≡ compact)
-IsNotOld (board_file f) = ⊥
+abbrev pub IsNotOld : Kind → List ℕ → Type 0
+IsNotOld Database f = IsRightDatabase f × (version_of f ≡ compact)
+IsNotOld Board f = ⊥
 
 -- what a fault says of a file: a refused one has this first fault, and one that is no old one is
 -- right and of version 2
-abbrev pub IsFaultIn : AnyFile → Fault → Type 0
-IsFaultIn file OverBound = ⊥
-IsFaultIn file (Refused cause) = IsFirstBy file cause
-IsFaultIn file NotOld = IsNotOld file
-IsFaultIn file _ = Unit {0}
+abbrev pub IsFaultIn : Kind → List ℕ → Fault → Type 0
+IsFaultIn kind file OverBound = ⊥
+IsFaultIn kind file (Refused cause) = IsFirstAs kind file cause
+IsFaultIn kind file NotOld = IsNotOld kind file
+IsFaultIn kind file _ = Unit {0}
 
 -- what failed is no file that is refused, or the fault is that of some opened file of this kind
-abbrev pub IsOwnFault : (List ℕ → AnyFile) → (List ℕ → Type 0) → Fault → Type 0
+abbrev pub IsOwnFault : Option Kind → (List ℕ → Type 0) → Fault → Type 0
 IsOwnFault kind From fault = (status_of fault ≡ 1)
-    ⊎ ((file : List ℕ) × From file × IsFaultIn (kind file) fault)
+    ⊎ ((file : List ℕ) × From file × IsFaultIn (kind_as kind file) file fault)
 
 -- what the fault of a request says of the file that it reads. Which fault a refused database has is
 -- not said of the answers by pages
 abbrev pub IsFaultOf : (List ℕ → List ℕ → Type 0) → Asked → Fault → Type 0
-IsFaultOf From (check kind path) = IsOwnFault (file_of kind) (From path)
-IsFaultOf From (query kind path None) = IsOwnFault (file_of kind) (From path)
-IsFaultOf From (ask path lines) = IsOwnFault stated_file (From path)
-IsFaultOf From (about path) = IsOwnFault stated_file (From path)
-IsFaultOf From (audit kind path) = IsOwnFault (file_of kind) (From path)
-IsFaultOf From (upgrade before after) = IsOwnFault database_file (From before)
+IsFaultOf From (check kind path) = IsOwnFault (Some kind) (From path)
+IsFaultOf From (query kind path None) = IsOwnFault (Some kind) (From path)
+IsFaultOf From (ask path lines) = IsOwnFault None (From path)
+IsFaultOf From (about path) = IsOwnFault None (From path)
+IsFaultOf From (audit kind path) = IsOwnFault (Some kind) (From path)
+IsFaultOf From (upgrade before after) = IsOwnFault (Some Database) (From before)
 IsFaultOf From _ = λ fault. Unit {0}
 
 -- what a command that writes a file, and reads none, can fail by

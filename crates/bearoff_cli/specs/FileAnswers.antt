@@ -3,21 +3,23 @@
 use Rattle.std.specs.Prelude.{◌≡◌, ℕ, zero, suc, List, [], ◌∷◌, ◌++◌, take, Option, codes, decimal}
 use Rattle.std.specs.Io.KnownBytes.{Appends, IsAtEnd}
 use Rattle.race_model.specs.BuiltFile.{IsBuilt}
+use Rattle.race_model.specs.BoardFiles.{board_book}
 use Rattle.race_model.specs.InputLines.{lines_of}
+use Rattle.race_model.specs.Levels.{IsLevelLine, IsLevelLineIn}
 use Rattle.race_model.specs.Ranks.{count_to}
 use Rattle.race_model.specs.Versions.{full, version_number}
 use Rattle.race_model.specs.Files.{version_of, bound_of}
 use Rattle.race_model.specs.RightFiles.{IsRightDatabase}
 use Rattle.db_reader.specs.Telling.{WhereTold}
 use Rattle.certificate.specs.Upgrades.{WritesUpgrade}
-use Rattle.epc_query.specs.AnyFiles.{AnyFile, database_file, board_file, bound_by, IsRightBy, IsLevelLineBy}
 use Rattle.db_layout.specs.declared.stated.Kind.{Kind}
 use Rattle.db_layout.specs.declared.stated.Kind.TheVariants.{Database, Board}
 use Rattle.epc_query.specs.Runs.{HasReplies}
 use Rattle.retrograde.specs.UsualVersion.{usual_version}
 use Rattle.whole_file.specs.Disks.{Moment, Holds, Lastly}
 use Rattle.whole_file.specs.Paths.{Paths, LeadsTo, place_of}
-use Rattle.bearoff_cli.specs.Kinds.{stated_file, stated_kind}
+use Rattle.epc_query.specs.Kinds.{IsRightAs, book_as, version_as}
+use Rattle.bearoff_cli.specs.Kinds.{kind_as, stated_kind}
 use Rattle.bearoff_cli.specs.declared.act.Done.{Done}
 use Rattle.bearoff_cli.specs.declared.act.Done.TheVariants.{Built, Checked, Upgraded}
 
@@ -38,26 +40,26 @@ IsHandedTo {W} contents Writes =
 
 -- the input was read to its end, the file is right, and the replies to the lines of the input were
 -- written, and nothing else
-pub record AreAnswered (file : AnyFile) (given : List ℕ)
+pub record AreAnswered (kind : Kind) (file given : List ℕ)
     (left old new : Option (List ℕ)) : Type 0 where
-  pub right : IsRightBy file
+  pub right : IsRightAs kind file
   pub end : IsAtEnd left
-  pub replies : HasReplies file (lines_of given) old new
+  pub replies : HasReplies (book_as kind file) (lines_of given) old new
 
 -- .. and it is the database that the builder makes of a bound
 pub record AreAnsweredOver (bound : ℕ) (given : List ℕ)
     (left old new : Option (List ℕ)) : Type 0 where
   pub file : List ℕ
   pub built : IsBuilt (usual_version bound) bound file
-  pub answered : AreAnswered (database_file file) given left old new
+  pub answered : AreAnswered Database file given left old new
 
 -- the replies over some opened file of this kind were written
-pub record AreAnsweredFrom (kind : List ℕ → AnyFile)
+pub record AreAnsweredFrom (kind : Option Kind)
     (From : List ℕ → Type 0) (given : List ℕ)
     (left old new : Option (List ℕ)) : Type 0 where
   pub file : List ℕ
   pub read : From file
-  pub answered : AreAnswered (kind file) given left old new
+  pub answered : AreAnswered (kind_as kind file) file given left old new
 
 -- the words for what was done
 abbrev pub count_text : Done → List ℕ
@@ -72,18 +74,13 @@ count_line done pips positions =
 
 -- the line of an accepted file was written: an opened file of this kind is right, and has this
 -- bound
-pub record SaysRight (kind : List ℕ → AnyFile) (From : List ℕ → Type 0)
+pub record SaysRight (kind : Option Kind) (From : List ℕ → Type 0)
     (old new : Option (List ℕ)) : Type 0 where
   pub file : List ℕ
   pub read : From file
-  pub right : IsRightBy (kind file)
+  pub right : IsRightAs (kind_as kind file) file
   pub written : Appends old new
-      (count_line Checked (bound_by (kind file)) (count_to (bound_by (kind file))))
-
--- the version of a file
-abbrev pub version_in : AnyFile → ℕ
-version_in (database_file f) = version_number (version_of f)
-version_in (board_file f) = 3
+      (count_line Checked (bound_of file) (count_to (bound_of file)))
 
 -- the words for a kind of file
 abbrev pub kind_text : Kind → List ℕ
@@ -98,8 +95,8 @@ about_text kind version pips positions =
 
 -- .. of the file that has these bytes, of the kind that its header states
 abbrev pub about_file : List ℕ → List ℕ
-about_file f = about_text (stated_kind f) (version_in (stated_file f)) (bound_by (stated_file f))
-    (count_to (bound_by (stated_file f)))
+about_file f = about_text (stated_kind f) (version_as (stated_kind f) f) (bound_of f)
+    (count_to (bound_of f))
 
 -- what an accepted file is was written: an opened file of the kind that its header states is right,
 -- and is this
@@ -107,7 +104,7 @@ pub record SaysAbout (From : List ℕ → Type 0)
     (old new : Option (List ℕ)) : Type 0 where
   pub file : List ℕ
   pub read : From file
-  pub right : IsRightBy (stated_file file)
+  pub right : IsRightAs (stated_kind file) file
   pub written : Appends old new (about_file file)
 
 -- the line of an upgraded database was written: an opened file is right and of version 1, and has
@@ -121,28 +118,35 @@ pub record SaysUpgraded {W : Type 0} (From : List ℕ → Type 0)
   pub handed : IsHandedTo contents (WritesUpgrade file)
   pub written : Appends old new (count_line Upgraded (bound_of file) (count_to (bound_of file)))
 
+-- the bytes are its line of a pip count, without the line feed
+abbrev pub IsLevelLineAs : Kind → List ℕ → ℕ → List ℕ → Type 0
+IsLevelLineAs Database f = IsLevelLine f
+IsLevelLineAs Board f = IsLevelLineIn (board_book f)
+
 -- the line of a pip count of a file was written
-pub record WritesLevel (file : AnyFile) (p : ℕ) (old new : Option (List ℕ)) : Type 0 where
+pub record WritesLevel (kind : Kind) (file : List ℕ) (p : ℕ)
+    (old new : Option (List ℕ)) : Type 0 where
   pub line : List ℕ
-  pub is : IsLevelLineBy file p line
+  pub is : IsLevelLineAs kind file p line
   pub written : Appends old new (line ++ 10 ∷ [])
 
 -- the bytes are the lines of the first so many pip counts of a file, from 0 on
-abbrev pub AreLevelLines : AnyFile → ℕ → List ℕ → Type 0
-AreLevelLines file zero bytes = bytes ≡ []
-AreLevelLines file (suc p) bytes = (before line : List ℕ) × AreLevelLines file p before
-    × IsLevelLineBy file p line × (bytes ≡ before ++ (line ++ 10 ∷ []))
+abbrev pub AreLevelLines : Kind → List ℕ → ℕ → List ℕ → Type 0
+AreLevelLines kind file zero bytes = bytes ≡ []
+AreLevelLines kind file (suc p) bytes = (before line : List ℕ) × AreLevelLines kind file p before
+    × IsLevelLineAs kind file p line × (bytes ≡ before ++ (line ++ 10 ∷ []))
 
 -- the lines of the first so many pip counts of a file were written
-pub record WritesLevels (file : AnyFile) (count : ℕ) (old new : Option (List ℕ)) : Type 0 where
+pub record WritesLevels (kind : Kind) (file : List ℕ) (count : ℕ)
+    (old new : Option (List ℕ)) : Type 0 where
   pub lines : List ℕ
-  pub levels : AreLevelLines file count lines
+  pub levels : AreLevelLines kind file count lines
   pub written : Appends old new lines
 
 -- the lines of all pip counts of some opened file of this kind were written
-pub record SaysLevels (kind : List ℕ → AnyFile) (From : List ℕ → Type 0)
+pub record SaysLevels (kind : Option Kind) (From : List ℕ → Type 0)
     (old new : Option (List ℕ)) : Type 0 where
   pub file : List ℕ
   pub read : From file
-  pub right : IsRightBy (kind file)
-  pub levels : WritesLevels (kind file) (suc (bound_by (kind file))) old new
+  pub right : IsRightAs (kind_as kind file) file
+  pub levels : WritesLevels (kind_as kind file) file (suc (bound_of file)) old new

@@ -1,37 +1,25 @@
 -- What is said of both kinds of file. Source: this project's profile.
-use Rattle.std.specs.Prelude.{◌≡◌, ◌≤◌, ◌==◌, if◌then◌else◌, ℕ, List, Option, Some, None}
+use Rattle.std.specs.Prelude.{◌≡◌, ◌==◌, if◌then◌else◌, ℕ, List, Option, Some, None}
 use Rattle.std.specs.Int.{w16, from_be_bytes}
 use Rattle.std.specs.Io.KnownBytes.{Appends}
 use Rattle.race_model.specs.BuiltFile.{IsBuilt}
-use Rattle.race_model.specs.Files.{bytes_at, version_of}
-use Rattle.race_model.specs.Versions.{version_number}
+use Rattle.race_model.specs.Files.{bytes_at}
 use Rattle.retrograde.specs.UsualVersion.{usual_version}
 use Rattle.retrograde.specs.BuiltBoards.{IsBuiltBoard}
-use Rattle.epc_query.specs.declared.database.Accepted.{Accepted}
-use Rattle.epc_query.specs.AnyFiles.{AnyFile, database_file, board_file}
 use Rattle.bearoff_cli.specs.declared.files.Ready.{Ready}
 use Rattle.bearoff_cli.specs.declared.files.Ready.TheVariants.{Database as OfDatabase, Board as OfBoard}
 use Rattle.db_layout.specs.declared.stated.Kind.{Kind}
 use Rattle.db_layout.specs.declared.stated.Kind.TheVariants.{Database, Board}
-
--- the file of this kind that has these bytes
-abbrev pub file_of : Kind → List ℕ → AnyFile
-file_of Database = database_file
-file_of Board = board_file
 
 -- the kind that the header of a file states: a board file where its version is 3, and else a
 -- database
 unfoldable pub stated_kind : List ℕ → Kind
 stated_kind f = if from_be_bytes w16 (bytes_at f 8 2) == 3 then Board else Database
 
--- the file of that kind that has these bytes
-abbrev pub stated_file : List ℕ → AnyFile
-stated_file f = file_of (stated_kind f) f
-
--- the file of a given kind, or of the stated one, that has these bytes
-abbrev pub file_as : Option Kind → List ℕ → AnyFile
-file_as None = stated_file
-file_as (Some kind) = file_of kind
+-- the given kind, or that one
+abbrev pub kind_as : Option Kind → List ℕ → Kind
+kind_as None f = stated_kind f
+kind_as (Some kind) f = kind
 
 -- the greatest pip bound of a file of this kind
 abbrev pub greatest : Kind → ℕ
@@ -52,9 +40,3 @@ WritesBuiltOf kind bound old new =
 abbrev pub Makes : Ready → Kind → ℕ → Type 0
 Makes (OfDatabase bound) kind pips = (kind ≡ Database) × (bound ≡ pips)
 Makes (OfBoard bound room) kind pips = (kind ≡ Board) × (bound ≡ pips)
-
--- what is kept of right bytes beside their bound: the version of a database; the bound of a board
--- file is one
-abbrev pub IsKept : Kind → Accepted → List ℕ → Type 0
-IsKept Database kept f = kept.version ≡ version_number (version_of f)
-IsKept Board kept f = kept.bound ≤ 90

@@ -8,7 +8,7 @@ use Rattle.bearoff_cli.specs.FileAnswers.{AreAnsweredOver, AreAnsweredFrom, IsHa
 use Rattle.bearoff_cli.specs.FileAnswers.{SaysRight, SaysUpgraded, SaysLevels, count_line}
 use Rattle.whole_file.specs.Disks.{Moment}
 use Rattle.whole_file.specs.Paths.{Paths}
-use Rattle.bearoff_cli.specs.Kinds.{WritesBuiltOf, greatest, stated_file, file_of}
+use Rattle.bearoff_cli.specs.Kinds.{WritesBuiltOf, greatest}
 use Rattle.bearoff_cli.specs.PutFiles.{LeavesFor, LeavesInput, PutsFor}
 use Rattle.bearoff_cli.specs.Lines.{status_of}
 use Rattle.bearoff_cli.specs.StoppedRuns.{IsEndOf, IsRefusalOf}
@@ -28,15 +28,15 @@ IsDone From contents (build kind pips path) input left old new =
     (pips ≤ greatest kind) × IsHandedTo contents (WritesBuiltOf kind pips)
     × Appends old new (count_line Built pips (count_to pips))
 IsDone From contents (check kind path) input left old new =
-    SaysRight (file_of kind) (From path) old new
+    SaysRight (Some kind) (From path) old new
 IsDone From contents (query kind path None) input left old new =
-    WhereTold input (λ given. AreAnsweredFrom (file_of kind) (From path) given left old new)
+    WhereTold input (λ given. AreAnsweredFrom (Some kind) (From path) given left old new)
 IsDone From contents (query kind path (Some records)) input left old new = Unit {0}
 IsDone From contents (ask path lines) input left old new =
-    (left ≡ input) × AreAnsweredFrom stated_file (From path) lines (Some []) old new
+    (left ≡ input) × AreAnsweredFrom None (From path) lines (Some []) old new
 IsDone From contents (about path) input left old new = SaysAbout (From path) old new
 IsDone From contents (audit kind path) input left old new =
-    SaysLevels (file_of kind) (From path) old new
+    SaysLevels (Some kind) (From path) old new
 IsDone From contents (upgrade before after) input left old new =
     SaysUpgraded (From before) contents old new
 

@@ -8,7 +8,8 @@ use Rattle.race_model.specs.Versions.{full}
 use Rattle.db_layout.specs.Writes.{AppendsPart}
 use Rattle.db_reader.specs.Telling.{WhereTold}
 use Rattle.retrograde.specs.UsualVersion.{usual_version}
-use Rattle.epc_query.specs.AnyFiles.{AnyFile, database_file, bound_by, IsRightBy, IsLevelLineBy}
+use Rattle.db_layout.specs.declared.stated.Kind.{Kind}
+use Rattle.db_layout.specs.declared.stated.Kind.TheVariants.{Database}
 use Rattle.epc_query.specs.Runs.{IsRunStopped}
 use Rattle.epc_query.specs.declared.run_fault.RunFault.{RunFault}
 use Rattle.command_line.specs.Asked.{Asked, default, build, check, query, ask, about, audit, upgrade}
@@ -16,33 +17,35 @@ use Rattle.bearoff_cli.specs.Causes.{of_run}
 use Rattle.bearoff_cli.specs.declared.fault.Fault.{Fault}
 use Rattle.bearoff_cli.specs.declared.fault.Fault.TheVariants.{Open, File, Write, Memory, Refused}
 use Rattle.bearoff_cli.specs.Faults.{CanEnd, IsFaultOf, IsOwnFault, UsesTurns}
-use Rattle.bearoff_cli.specs.FileAnswers.{AreLevelLines, about_file, count_line}
-use Rattle.bearoff_cli.specs.Kinds.{stated_file, file_of}
+use Rattle.bearoff_cli.specs.FileAnswers.{AreLevelLines, IsLevelLineAs, about_file, count_line}
+use Rattle.epc_query.specs.Kinds.{IsRightAs, book_as}
+use Rattle.bearoff_cli.specs.Kinds.{kind_as}
 use Rattle.bearoff_cli.specs.declared.act.Done.TheVariants.{Built, Checked, Upgraded}
 use Rattle.bearoff_cli.specs.declared.act.ProgramFault.{ProgramFault}
 use Rattle.bearoff_cli.specs.declared.act.ProgramFault.TheVariants.{Words, Failed, Explained}
 
 -- the replies to the lines of an input, over a right file, stopped so: what was written is what
 -- `run` says of the fault's cause
-pub record AreStopped (file : AnyFile) (given : List ℕ) (left old new : Option (List ℕ))
+pub record AreStopped (kind : Kind) (file given : List ℕ) (left old new : Option (List ℕ))
     (fault : Fault) : Type 0 where
-  pub right : IsRightBy file
+  pub right : IsRightAs kind file
   pub cause : RunFault
   pub fault_is : fault ≡ of_run cause
-  pub stopped : IsRunStopped file given left old new cause
+  pub stopped : IsRunStopped (book_as kind file) given left old new cause
 
 -- a prefix of the line of a pip count of a file was written
-pub record WritesLevelPart (file : AnyFile) (p : ℕ) (old new : Option (List ℕ)) : Type 0 where
+pub record WritesLevelPart (kind : Kind) (file : List ℕ) (p : ℕ)
+    (old new : Option (List ℕ)) : Type 0 where
   pub line : List ℕ
-  pub is : IsLevelLineBy file p line
+  pub is : IsLevelLineAs kind file p line
   pub written : AppendsPart old new (line ++ 10 ∷ [])
 
 -- a prefix of the lines of the first so many pip counts of a file was written
-pub record WritesLevelsPart (file : AnyFile) (old new : Option (List ℕ)) : Type 0 where
+pub record WritesLevelsPart (kind : Kind) (file : List ℕ) (old new : Option (List ℕ)) : Type 0 where
   pub count : ℕ
-  pub within : count ≤ suc (bound_by file)
+  pub within : count ≤ suc (bound_of file)
   pub lines : List ℕ
-  pub levels : AreLevelLines file count lines
+  pub levels : AreLevelLines kind file count lines
   pub written : AppendsPart old new lines
 
 -- a prefix of the line of an upgraded database was written, which is of version 1
@@ -51,35 +54,36 @@ SaysUpgradedPart file old new = (version_of file ≡ full)
     × AppendsPart old new (count_line Upgraded (bound_of file) (count_to (bound_of file)))
 
 -- nothing was written, or this was, of a right file of this kind that was read from some opened one
-abbrev pub IsNothingOr : (List ℕ → AnyFile) → (List ℕ → Type 0)
+abbrev pub IsNothingOr : Option Kind → (List ℕ → Type 0)
     → (List ℕ → Type 0) → Option (List ℕ) → Option (List ℕ) → Type 0
 IsNothingOr kind From Says old new = (new ≡ old)
-    ⊎ ((file : List ℕ) × From file × IsRightBy (kind file) × Says file)
+    ⊎ ((file : List ℕ) × From file × IsRightAs (kind_as kind file) file × Says file)
 
 -- what was written of the lines of an input over an opened file of this kind
-abbrev pub LeavesReplies : (List ℕ → AnyFile) → (List ℕ → Type 0)
+abbrev pub LeavesReplies : Option Kind → (List ℕ → Type 0)
     → Option (List ℕ) → Option (List ℕ) → Option (List ℕ) → Option (List ℕ) → Fault → Type 0
 LeavesReplies kind From input left old new fault = WhereTold input (λ given.
-    IsNothingOr kind From (λ file. AreStopped (kind file) given left old new fault) old new)
+    IsNothingOr kind From (λ file. AreStopped (kind_as kind file) file given left old new fault)
+    old new)
 
 -- .. of the line of an accepted one
-abbrev pub LeavesLine : (List ℕ → AnyFile) → (List ℕ → Type 0)
+abbrev pub LeavesLine : Option Kind → (List ℕ → Type 0)
     → Option (List ℕ) → Option (List ℕ) → Type 0
 LeavesLine kind From old new =
-    IsNothingOr kind From (λ file. AppendsPart old new (count_line Checked (bound_by (kind file))
-    (count_to (bound_by (kind file))))) old new
+    IsNothingOr kind From (λ file. AppendsPart old new (count_line Checked (bound_of file)
+    (count_to (bound_of file)))) old new
 
 -- .. of the lines of what it is
 abbrev pub LeavesAbout : (List ℕ → Type 0) → Option (List ℕ)
     → Option (List ℕ) → Type 0
 LeavesAbout From old new =
-    IsNothingOr stated_file From (λ file. AppendsPart old new (about_file file)) old new
+    IsNothingOr None From (λ file. AppendsPart old new (about_file file)) old new
 
 -- .. and of the lines of its pip counts
-abbrev pub LeavesLevels : (List ℕ → AnyFile) → (List ℕ → Type 0)
+abbrev pub LeavesLevels : Option Kind → (List ℕ → Type 0)
     → Option (List ℕ) → Option (List ℕ) → Type 0
 LeavesLevels kind From old new =
-    IsNothingOr kind From (λ file. WritesLevelsPart (kind file) old new) old new
+    IsNothingOr kind From (λ file. WritesLevelsPart (kind_as kind file) file old new) old new
 
 -- what was written for a request where the program ended with this fault. Of the answers by pages
 -- nothing is said. Where lines are words of the request the input is left alone, and they are read
@@ -88,22 +92,22 @@ abbrev pub Leaves : (List ℕ → List ℕ → Type 0) → Asked → Option (Lis
     → Option (List ℕ) → Option (List ℕ) → Option (List ℕ) → Fault → Type 0
 Leaves From default input left old new fault = WhereTold input (λ given. (new ≡ old)
     ⊎ ((file : List ℕ) × IsBuilt (usual_version 8) 8 file
-    × AreStopped (database_file file) given left old new fault))
+    × AreStopped Database file given left old new fault))
 Leaves From (build kind pips path) input left old new fault =
     AppendsPart old new (count_line Built pips (count_to pips))
 Leaves From (check kind path) input left old new fault =
-    LeavesLine (file_of kind) (From path) old new
+    LeavesLine (Some kind) (From path) old new
 Leaves From (query kind path None) input left old new fault =
-    LeavesReplies (file_of kind) (From path) input left old new fault
+    LeavesReplies (Some kind) (From path) input left old new fault
 Leaves From (query kind path (Some records)) input left old new fault = Unit {0}
 Leaves From (ask path lines) input left old new fault = (left ≡ input)
     × ((rest : Option (List ℕ)) × UsesTurns (Some lines) rest fault
-    × LeavesReplies stated_file (From path) (Some lines) rest old new fault)
+    × LeavesReplies None (From path) (Some lines) rest old new fault)
 Leaves From (about path) input left old new fault = LeavesAbout (From path) old new
 Leaves From (audit kind path) input left old new fault =
-    LeavesLevels (file_of kind) (From path) old new
+    LeavesLevels (Some kind) (From path) old new
 Leaves From (upgrade before after) input left old new fault =
-    IsNothingOr database_file (From before) (λ file. SaysUpgradedPart file old new) old new
+    IsNothingOr (Some Database) (From before) (λ file. SaysUpgradedPart file old new) old new
 
 -- how much was read of the input where the reads ran out. `Leaves` says so of lines that are words
 abbrev pub RunsOut : Asked → Option (List ℕ) → Option (List ℕ) → Fault → Type 0
@@ -148,7 +152,7 @@ abbrev pub IsAboutEnd : (List ℕ → Type 0) → List ℕ → Option (List ℕ)
 IsAboutEnd From path old new (Words error) = ⊥
 IsAboutEnd From path old new (Failed fault) = IsNoFile fault × LeavesAbout From old new
 IsAboutEnd From path old new (Explained it) = (it.path.now ≡ path)
-    × IsOfFile it.fault it.reason × IsOwnFault stated_file From it.fault
+    × IsOfFile it.fault it.reason × IsOwnFault None From it.fault
     × LeavesAbout From old new
 
 -- .. as a refusal: its words are not wrong

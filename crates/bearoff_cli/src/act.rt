@@ -3,7 +3,7 @@ ghost use Rattle.std.specs.Prelude.{◌≡◌, ℕ, ◌<◌, ◌≤◌, ◌⊎�
 ghost use Rattle.std.specs.Prelude.{IfErr, OnOk, OnErr};
 ghost use Rattle.std.specs.Io.KnownBytes.{Appends};
 ghost use Rattle.race_model.specs.BuiltFile.{IsBuilt};
-ghost use Rattle.epc_query.specs.AnyFiles.{database_file, IsRightBy};
+ghost use Rattle.db_layout.specs.declared.stated.Kind.TheVariants.{Database};
 ghost use Rattle.race_model.specs.Ranks.{count_to};
 ghost use Rattle.db_reader.specs.Telling.{WhereTold};
 ghost use Rattle.db_layout.specs.Writes.{AppendsPart};
@@ -25,7 +25,8 @@ ghost use Rattle.whole_file.specs.Puts.{Puts};
 ghost use Rattle.bearoff_cli.specs.PutFiles.{KeepsBehind, KeepsUpgrade, LeavesBy, LeavesFor, LeavesInput, PutsFor};
 ghost use Rattle.bearoff_cli.specs.PutFiles.{PutsUpgrade, KeepsIfRefused, KeepsIfTold};
 ghost use Rattle.retrograde.specs.UsualVersion.{usual_version};
-ghost use Rattle.bearoff_cli.specs.Kinds.{IsBuiltOf, WritesBuiltOf, file_as, greatest, stated_file, file_of};
+ghost use Rattle.epc_query.specs.Kinds.{IsRightAs};
+ghost use Rattle.bearoff_cli.specs.Kinds.{IsBuiltOf, WritesBuiltOf, greatest};
 ghost use Rattle.bearoff_cli.specs.Requests.{EndsAs, EndsBy, IsDone};
 ghost use Rattle.bearoff_cli.specs.StoppedRuns.{AreStopped, IsAboutEnd, IsEndOf, IsNothingOr, IsRefusalOf, IsUnreadEnd};
 ghost use Rattle.bearoff_cli.specs.StoppedRuns.{LeavesLevels, LeavesLine, LeavesReplies, SaysUpgradedPart};
@@ -39,7 +40,7 @@ use crate::files::{
     write_flushed,
 };
 use crate::kinds::{
-    TURNS, accept, answer, greatest, handed_on, kind_of, stated_kind, version, write_levels,
+    TURNS, accept, answer, greatest, handed_on, kind_of, stated_kind, write_levels,
 };
 use crate::meaning::{Reason, shown, write_meaning};
 use arrayvec::ArrayString;
@@ -377,7 +378,7 @@ fn answer_default<I: Read, O: Write>(
     ensures left { WhereTold (I.remaining input.old) (λ given. IfErr result
         (λ fault. (O.contents output.new ≡ O.contents output.old)
         ⊎ ((file : List ℕ) × IsBuilt (usual_version 8) 8 file
-        × AreStopped (database_file file) given (I.remaining input.new)
+        × AreStopped Database file given (I.remaining input.new)
         (O.contents output.old) (O.contents output.new) fault))) }
     ensures answers { WhereTold (I.remaining input.old)
         (λ given. IfOk result (λ _. AreAnsweredOver 8 given (I.remaining input.new)
@@ -403,14 +404,14 @@ fn answer_file<D: Disk, I: Read, O: Write>(
     ensures refused { KeepsIfRefused result (O.contents output.old) (O.contents output.new) }
     ensures cause { IfErr result IsQueryFault }
     ensures turns { IfErr result (UsesTurns (I.remaining input.old) (I.remaining input.new)) }
-    ensures fault { IfErr result (λ fault. IsOwnFault (file_as kind) (IsReadFrom D.Reader.remaining
+    ensures fault { IfErr result (λ fault. IsOwnFault kind (IsReadFrom D.Reader.remaining
         (D.paths disk.old) (D.told disk.old) path.now) fault) }
-    ensures left { IfErr result (LeavesReplies (file_as kind) (IsReadFrom D.Reader.remaining
+    ensures left { IfErr result (LeavesReplies kind (IsReadFrom D.Reader.remaining
         (D.paths disk.old) (D.told disk.old) path.now)
         (I.remaining input.old) (I.remaining input.new)
         (O.contents output.old) (O.contents output.new)) }
     ensures answers { OnOk result (WhereTold (I.remaining input.old) (λ given.
-        AreAnsweredFrom (file_as kind) (IsReadFrom D.Reader.remaining
+        AreAnsweredFrom kind (IsReadFrom D.Reader.remaining
         (D.paths disk.old) (D.told disk.old) path.now) given (I.remaining input.new)
         (O.contents output.old) (O.contents output.new))) }
     ensures stays { D.told disk.new ≡ D.told disk.old }
@@ -459,14 +460,14 @@ fn answer_bytes<I: Read, O: Write>(
     ensures refused { KeepsIfRefused result (O.contents output.old) (O.contents output.new) }
     ensures cause { IfErr result IsQueryFault }
     ensures turns { IfErr result (UsesTurns (I.remaining input.old) (I.remaining input.new)) }
-    ensures right { IsRightBy (file_of kind bytes.now) → IfErr result IsAnswerFault }
-    ensures fault { IfErr result (λ fault. IsFaultIn (file_of kind bytes.now) fault) }
+    ensures right { IsRightAs kind bytes.now → IfErr result IsAnswerFault }
+    ensures fault { IfErr result (λ fault. IsFaultIn kind bytes.now fault) }
     ensures left { WhereTold (I.remaining input.old) (λ given. IfErr result
         (λ fault. (O.contents output.new ≡ O.contents output.old)
-        ⊎ AreStopped (file_of kind bytes.now) given (I.remaining input.new) (O.contents output.old)
+        ⊎ AreStopped kind bytes.now given (I.remaining input.new) (O.contents output.old)
         (O.contents output.new) fault)) }
     ensures answers { WhereTold (I.remaining input.old) (λ given. IfOk result
-        (λ _. AreAnswered (file_of kind bytes.now) given (I.remaining input.new)
+        (λ _. AreAnswered kind bytes.now given (I.remaining input.new)
         (O.contents output.old) (O.contents output.new))) }
 {
     let kept = accept(kind, bytes)?;
@@ -521,7 +522,7 @@ fn accepted<T: Table>(
     ensures refused { IfErr told.old (λ refused. result ≡ Err (of_check refused.1)) }
     ensures cause { IfErr result IsCheckFault }
     ensures fault { (file : List ℕ) → IfErr told.old (λ refused. IsFirst file refused.1)
-        → IfErr result (λ fault. IsFaultIn (database_file file) fault) }
+        → IfErr result (λ fault. IsFaultIn Database file fault) }
 {
     match told {
         Ok(checked) => Ok(checked),
@@ -585,18 +586,18 @@ fn report_file<D: Disk, O: Write>(
 ) -> Result<(), Fault>
     ensures refused { KeepsIfRefused result (O.contents output.old) (O.contents output.new) }
     ensures cause { IfErr result IsCheckFault }
-    ensures fault { IfErr result (λ fault. IsOwnFault (file_of kind) (IsReadFrom D.Reader.remaining
+    ensures fault { IfErr result (λ fault. IsOwnFault (Some kind) (IsReadFrom D.Reader.remaining
         (D.paths disk.old) (D.told disk.old) path.now) fault) }
-    ensures right { report ≡ Count → OnOk result (SaysRight (file_of kind)
+    ensures right { report ≡ Count → OnOk result (SaysRight (Some kind)
         (IsReadFrom D.Reader.remaining (D.paths disk.old) (D.told disk.old) path.now)
         (O.contents output.old) (O.contents output.new)) }
-    ensures left { report ≡ Count → OnErr result (LeavesLine (file_of kind)
+    ensures left { report ≡ Count → OnErr result (LeavesLine (Some kind)
         (IsReadFrom D.Reader.remaining (D.paths disk.old) (D.told disk.old) path.now)
         (O.contents output.old) (O.contents output.new)) }
-    ensures levels { report ≡ Levels → OnOk result (SaysLevels (file_of kind)
+    ensures levels { report ≡ Levels → OnOk result (SaysLevels (Some kind)
         (IsReadFrom D.Reader.remaining (D.paths disk.old) (D.told disk.old) path.now)
         (O.contents output.old) (O.contents output.new)) }
-    ensures left_levels { report ≡ Levels → OnErr result (LeavesLevels (file_of kind)
+    ensures left_levels { report ≡ Levels → OnErr result (LeavesLevels (Some kind)
         (IsReadFrom D.Reader.remaining (D.paths disk.old) (D.told disk.old) path.now)
         (O.contents output.old) (O.contents output.new)) }
     ensures stays { D.told disk.new ≡ D.told disk.old }
@@ -638,7 +639,7 @@ fn about_file<'a, D: Disk, O: Write>(
     let kind = stated_kind(bytes);
     match accept(kind, bytes) {
         Ok(kept) => {
-            let text = about_text(kind, version(kind, kept), kept.bound);
+            let text = about_text(kind, kept.version, kept.bound);
             refused(write_flushed(text.as_str().as_bytes(), output))
         }
         Err(fault) => Err(ProgramFault::Explained(FileFault {
@@ -700,9 +701,9 @@ fn upgrade_database<D: Disk, O: Write>(
 ) -> Result<(), Fault>
     ensures refused { KeepsIfRefused result (O.contents output.old) (O.contents output.new) }
     ensures cause { IfErr result IsUpgradeFault }
-    ensures fault { IfErr result (λ fault. IsOwnFault database_file (IsReadFrom D.Reader.remaining
+    ensures fault { IfErr result (λ fault. IsOwnFault (Some Database) (IsReadFrom D.Reader.remaining
         (D.paths disk.old) (D.told disk.old) old.now) fault) }
-    ensures left { OnErr result (IsNothingOr database_file (IsReadFrom D.Reader.remaining
+    ensures left { OnErr result (IsNothingOr (Some Database) (IsReadFrom D.Reader.remaining
         (D.paths disk.old) (D.told disk.old) old.now)
         (λ file. SaysUpgradedPart file (O.contents output.old) (O.contents output.new))
         (O.contents output.old) (O.contents output.new)) }

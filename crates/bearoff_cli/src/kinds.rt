@@ -4,20 +4,22 @@ ghost use Rattle.std.specs.Prelude.{◌≡◌, ℕ, suc, ◌≤◌, List, Option
 ghost use Rattle.ranking.specs.Tables.{IsRankTable};
 ghost use Rattle.db_reader.specs.Telling.{WhereTold};
 ghost use Rattle.certificate.specs.declared.check_fault.CheckFault.{CheckFault};
-ghost use Rattle.epc_query.specs.AnyFiles.{AnyFile, bound_by, IsRightBy};
+ghost use Rattle.race_model.specs.Books.{Book};
+ghost use Rattle.race_model.specs.Files.{bound_of};
 ghost use Rattle.epc_query.specs.Runs.{IsRunStopped};
 ghost use Rattle.epc_query.specs.UsedReads.{HasUsed};
 ghost use Rattle.bearoff_cli.specs.Causes.{of_check};
 ghost use Rattle.bearoff_cli.specs.declared.fault.Fault.TheVariants.{Write};
-ghost use Rattle.bearoff_cli.specs.Faults.{IsAnswerFault, IsFirstBy, UsesTurns};
-ghost use Rattle.bearoff_cli.specs.FileAnswers.{WritesLevel, WritesLevels, version_in, AreAnswered};
-ghost use Rattle.bearoff_cli.specs.Kinds.{IsKept, file_as, greatest, stated_kind, file_of};
+ghost use Rattle.bearoff_cli.specs.Faults.{IsAnswerFault, IsFirstAs, UsesTurns};
+ghost use Rattle.bearoff_cli.specs.FileAnswers.{WritesLevel, WritesLevels, AreAnswered};
+ghost use Rattle.epc_query.specs.Kinds.{IsAcceptedAs, IsRightAs, book_as};
+ghost use Rattle.bearoff_cli.specs.Kinds.{greatest, kind_as, stated_kind};
 ghost use Rattle.bearoff_cli.specs.StoppedRuns.{AreStopped, WritesLevelPart, WritesLevelsPart};
 
 use crate::fault::Fault;
 use crate::files::flush;
 use certificate::check_board;
-use db_layout::{BOARD_BOUND, BOARD_VERSION, BoardHeader, Kind, read_short};
+use db_layout::{BOARD_BOUND, BOARD_VERSION, Kind, read_short};
 use epc_query::laws::law_level_text;
 use epc_query::{
     Accepted, Board, BoardText, Database, RunFault, Text, board_level, put_board_level, run_lines,
@@ -64,7 +66,7 @@ pub fn stated_kind(bytes: &[u8]) -> Kind
 
 /// The given kind, or that which the header of a file states.
 pub fn kind_of(given: Option<Kind>, bytes: &[u8]) -> Kind
-    ensures { file_of result bytes.now ≡ file_as given bytes.now }
+    ensures { result ≡ kind_as given bytes.now }
 {
     match given {
         Some(kind) => kind,
@@ -74,12 +76,10 @@ pub fn kind_of(given: Option<Kind>, bytes: &[u8]) -> Kind
 
 /// What is kept of bytes that are a right file of this kind.
 pub fn accept(kind: Kind, bytes: &[u8]) -> Result<Accepted, Fault>
-    ensures right { OnOk result (IsRightBy (file_of kind bytes.now)) }
-    ensures kept { IfOk result (λ kept. IsKept kind kept bytes.now) }
-    ensures bound { IfOk result (λ kept. kept.bound ≡ bound_by (file_of kind bytes.now)) }
-    ensures exactly { IsRightBy (file_of kind bytes.now) → IsOk result }
+    ensures accepted { IfOk result (IsAcceptedAs kind bytes.now) }
+    ensures exactly { IsRightAs kind bytes.now → IsOk result }
     ensures fault { IfErr result (λ fault. (cause : CheckFault)
-        × IsFirstBy (file_of kind bytes.now) cause × (fault ≡ of_check cause)) }
+        × IsFirstAs kind bytes.now cause × (fault ≡ of_check cause)) }
 {
     match kind {
         Kind::Database => match epc_query::accept(bytes) {
@@ -96,16 +96,6 @@ pub fn accept(kind: Kind, bytes: &[u8]) -> Result<Accepted, Fault>
     }
 }
 
-/// The version of bytes that were accepted.
-pub fn version(kind: Kind, kept: Accepted) -> u16
-    ensures { (file : List ℕ) → IsKept kind kept file → result ≡ version_in (file_of kind file) }
-{
-    match kind {
-        Kind::Database => kept.version,
-        Kind::Board => BOARD_VERSION,
-    }
-}
-
 /// Answers each line of the input over bytes that were accepted.
 // so that its room is not on the stack while the bytes are checked
 #[inline(never)]
@@ -117,16 +107,14 @@ pub fn answer<I: Read, O: Write>(
     input: &mut I,
     output: &mut O,
 ) -> Result<(), Fault>
-    requires right { IsRightBy (file_of kind bytes.now) }
-    requires kept { IsKept kind kept bytes.now }
-    requires bound { kept.bound ≡ bound_by (file_of kind bytes.now) }
+    requires { IsAcceptedAs kind bytes.now kept }
     ensures cause { IfErr result IsAnswerFault }
     ensures turns { IfErr result (UsesTurns (I.remaining input.old) (I.remaining input.new)) }
     ensures left { WhereTold (I.remaining input.old) (λ given. IfErr result
-        (AreStopped (file_of kind bytes.now) given (I.remaining input.new) (O.contents output.old)
+        (AreStopped kind bytes.now given (I.remaining input.new) (O.contents output.old)
         (O.contents output.new))) }
     ensures answers { WhereTold (I.remaining input.old) (λ given. IfOk result
-        (λ _. AreAnswered (file_of kind bytes.now) given (I.remaining input.new)
+        (λ _. AreAnswered kind bytes.now given (I.remaining input.new)
         (O.contents output.old) (O.contents output.new))) }
 {
     match run_kept(kind, kept, alloc, bytes, input, output) {
@@ -144,14 +132,12 @@ fn run_kept<I: Read, O: Write>(
     input: &mut I,
     output: &mut O,
 ) -> Result<u64, RunFault>
-    requires right { IsRightBy (file_of kind bytes.now) }
-    requires kept { IsKept kind kept bytes.now }
-    requires bound { kept.bound ≡ bound_by (file_of kind bytes.now) }
+    requires { IsAcceptedAs kind bytes.now kept }
     ensures answers { WhereTold (I.remaining input.old) (λ given. IfOk result
-        (λ _. AreAnswered (file_of kind bytes.now) given (I.remaining input.new)
+        (λ _. AreAnswered kind bytes.now given (I.remaining input.new)
         (O.contents output.old) (O.contents output.new))) }
     ensures stopped { WhereTold (I.remaining input.old) (λ given. IfErr result
-        (IsRunStopped (file_of kind bytes.now) given (I.remaining input.new)
+        (IsRunStopped (book_as kind bytes.now) given (I.remaining input.new)
         (O.contents output.old) (O.contents output.new))) }
     ensures used { WhereTold (I.remaining input.old) (λ given. IfErr result
         (HasUsed 1099511627776 given (I.remaining input.new))) }
@@ -163,8 +149,7 @@ fn run_kept<I: Read, O: Write>(
             run_lines(alloc, &mut database, &mut Text::new(), input, output, TURNS)
         }
         Kind::Board => {
-            let header = BoardHeader::new(kept.bound).unwrap();
-            let mut board = Board::accepted(bytes, header, &ranks);
+            let mut board = Board::kept(bytes, kept, &ranks);
             run_lines(
                 alloc,
                 &mut board,
@@ -181,9 +166,9 @@ fn run_kept<I: Read, O: Write>(
 /// on, as they are where nothing stopped: the output, where it fails at that. After a failed write
 /// nothing more is written.
 pub fn handed_on<O: Write>(cause: RunFault, output: &mut O) -> RunFault
-    ensures stopped { (file : AnyFile) (given : List ℕ) (left old : Option (List ℕ)) →
-        IsRunStopped file given left old (O.contents output.old) cause →
-        IsRunStopped file given left old (O.contents output.new) result }
+    ensures stopped { (book : Book) (given : List ℕ) (left old : Option (List ℕ)) →
+        IsRunStopped book given left old (O.contents output.old) cause →
+        IsRunStopped book given left old (O.contents output.new) result }
     ensures used { (turns : ℕ) (given : List ℕ) (left : Option (List ℕ)) →
         HasUsed turns given left cause → HasUsed turns given left result }
 {
@@ -205,14 +190,12 @@ pub fn write_levels<O: Write>(
     bytes: &[u8],
     output: &mut O,
 ) -> Result<(), Fault>
-    requires right { IsRightBy (file_of kind bytes.now) }
-    requires kept { IsKept kind kept bytes.now }
-    requires bound { kept.bound ≡ bound_by (file_of kind bytes.now) }
+    requires { IsAcceptedAs kind bytes.now kept }
     ensures cause { IfErr result (λ fault. fault ≡ Write) }
-    ensures part { OnErr result (WritesLevelsPart (file_of kind bytes.now)
+    ensures part { OnErr result (WritesLevelsPart kind bytes.now
         (O.contents output.old) (O.contents output.new)) }
-    ensures levels { OnOk result (WritesLevels (file_of kind bytes.now)
-        (suc (bound_by (file_of kind bytes.now))) (O.contents output.old)
+    ensures levels { OnOk result (WritesLevels kind bytes.now
+        (suc (bound_of bytes.now)) (O.contents output.old)
         (O.contents output.new)) }
 {
     let ranks = RankTable::new();
@@ -231,15 +214,13 @@ fn write_level<O: Write>(
     pips: u8,
     output: &mut O,
 ) -> Result<(), Fault>
-    requires right { IsRightBy (file_of kind bytes.now) }
-    requires kept { IsKept kind kept bytes.now }
-    requires bound { kept.bound ≡ bound_by (file_of kind bytes.now) }
+    requires accepted { IsAcceptedAs kind bytes.now kept }
     requires table { IsRankTable ranks.now }
     requires within { pips ≤ kept.bound }
     ensures cause { IfErr result (λ fault. fault ≡ Write) }
-    ensures part { OnErr result (WritesLevelPart (file_of kind bytes.now) pips
+    ensures part { OnErr result (WritesLevelPart kind bytes.now pips
         (O.contents output.old) (O.contents output.new)) }
-    ensures level { OnOk result (WritesLevel (file_of kind bytes.now) pips
+    ensures level { OnOk result (WritesLevel kind bytes.now pips
         (O.contents output.old) (O.contents output.new)) }
 {
     match kind {
@@ -250,8 +231,7 @@ fn write_level<O: Write>(
             epc_query::write_level(&level, output).map_err(|_| Fault::Write)
         }
         Kind::Board => {
-            let header = BoardHeader::new(kept.bound).unwrap();
-            let board = Board::accepted(bytes, header, ranks);
+            let board = Board::kept(bytes, kept, ranks);
             let level = board_level(&board, pips).unwrap();
             let mut text = BoardText::new();
             put_board_level(&mut text, &level);

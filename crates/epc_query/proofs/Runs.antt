@@ -7,41 +7,40 @@ use Rattle.std.proofs.lemmas.List.{append-nil, take-append-le, take_all, length-
 use Rattle.std.proofs.lemmas.List.{get_or_push, length_push, take_more, take-append-drop, get_or-drop, length-drop}
 use Rattle.std.proofs.Math.Seq.{take-append-add, take-add}
 use Rattle.std.proofs.lemmas.Bool.{cases_lt}
-use Rattle.race_model.specs.Files.{bound_of}
 use Rattle.race_model.specs.Queries.{Query, IsQuery, Refusal, IsRefused, no_query, of_too_many}
 use Rattle.race_model.specs.Queries.{of_over_bound, of_finished, of_no_result}
-use Rattle.race_model.specs.Replies.{answered, refused}
+use Rattle.race_model.specs.Books.{Book}
+use Rattle.race_model.specs.Replies.{IsReplyIn, answered, refused}
 use Rattle.std.proofs.lemmas.List.Elements.{All-head, All-tail}
 use Rattle.race_model.specs.InputLines.{pieces, rest_of, without_return, whole_lines, last_line, lines_of, HasNoFeed}
 use Rattle.db_layout.specs.Writes.{AppendsPart}
 use Rattle.db_layout.proofs.Known.{appends_none, appends_kept, appends_twice}
 use Rattle.epc_query.specs.declared.run_fault.RunFault.{RunFault}
 use Rattle.epc_query.specs.declared.run_fault.RunFault.TheVariants.{Read, Write, Table, Memory, Turns}
-use Rattle.epc_query.specs.AnyFiles.{AnyFile, database_file, board_file, IsReplyBy}
 use Rattle.epc_query.specs.Runs.{AreReplies, HasReplies, HasPart, IsMovesLine, IsRecordsLine}
 use Rattle.epc_query.specs.Runs.{IsStoppedAt, IsRunStopped, IsFirstFeed, IsAnswered}
 use Rattle.query_text.proofs.Held.{appends_same, part_after, part_all}
 
 -- no replies
-pub no_replies : (f : AnyFile) (old : Option (List ℕ)) → HasReplies f [] old old
+pub no_replies : (f : Book) (old : Option (List ℕ)) → HasReplies f [] old old
 no_replies f old = record { text = []; replies = refl; written = appends_none old }
 
 -- the reply to one line
-pub one_reply : (f : AnyFile) (line reply : List ℕ) (old new : Option (List ℕ))
-    → IsReplyBy f line reply
+pub one_reply : (f : Book) (line reply : List ℕ) (old new : Option (List ℕ))
+    → IsReplyIn f line reply
     → Appends old new reply → HasReplies f (line ∷ []) old new
 one_reply f line reply old new is h =
     record { text = reply; replies = (reply, [], is, refl, sym (append-nil reply)); written = h }
 
 -- .. and a prefix of it
-pub one_part : (f : AnyFile) (line reply : List ℕ) (old new : Option (List ℕ))
-    → IsReplyBy f line reply
+pub one_part : (f : Book) (line reply : List ℕ) (old new : Option (List ℕ))
+    → IsReplyIn f line reply
     → AppendsPart old new reply → HasPart f (line ∷ []) old new
 one_part f line reply old new is h =
     record { text = reply; replies = (reply, [], is, refl, sym (append-nil reply)); written = h }
 
 -- the replies to some lines and then to others
-both_replies : (f : AnyFile) (lines more : List (List ℕ)) (text others : List ℕ)
+both_replies : (f : Book) (lines more : List (List ℕ)) (text others : List ℕ)
     → AreReplies f lines text → AreReplies f more others
     → AreReplies f (lines ++ more) (text ++ others)
 both_replies f [] more text others e are = subst (AreReplies f more)
@@ -54,7 +53,7 @@ both_replies f (line ∷ lines) more text others (reply, rest, is, are, e) other
   ap (λ t. t ++ others) e ∙ append_assoc reply rest others,
 )
 
-pub more_replies : (f : AnyFile) (lines more : List (List ℕ)) (old mid new : Option (List ℕ))
+pub more_replies : (f : Book) (lines more : List (List ℕ)) (old mid new : Option (List ℕ))
     → HasReplies f lines old mid → HasReplies f more mid new
     → HasReplies f (lines ++ more) old new
 more_replies f lines more old mid new a b = record {
@@ -63,7 +62,7 @@ more_replies f lines more old mid new a b = record {
   written = appends_twice old mid new a.text b.text a.written b.written;
 }
 
-pub more_part : (f : AnyFile) (lines more : List (List ℕ)) (old mid new : Option (List ℕ))
+pub more_part : (f : Book) (lines more : List (List ℕ)) (old mid new : Option (List ℕ))
     → HasReplies f lines old mid → HasPart f more mid new
     → HasPart f (lines ++ more) old new
 more_part f lines more old mid new a b = record {
@@ -73,7 +72,7 @@ more_part f lines more old mid new a b = record {
 }
 
 -- the answers to lines before others stopped as those to all of them
-pub stopped_longer : (f : AnyFile) (lines more : List (List ℕ)) (old new : Option (List ℕ))
+pub stopped_longer : (f : Book) (lines more : List (List ℕ)) (old new : Option (List ℕ))
     (fault : RunFault) → IsStoppedAt f lines old new fault
     → IsStoppedAt f (lines ++ more) old new fault
 stopped_longer f lines more old new Read h = h
@@ -98,7 +97,7 @@ stopped_longer f lines more old new Memory (n, low, moves, is) = (
 )
 
 -- the answer to one more line stopped after the replies to those before it
-pub stopped_after : (f : AnyFile) (lines : List (List ℕ)) (line : List ℕ)
+pub stopped_after : (f : Book) (lines : List (List ℕ)) (line : List ℕ)
     (old mid new : Option (List ℕ)) (fault : RunFault) → HasReplies f lines old mid
     → IsStoppedAt f (line ∷ []) mid new fault → IsStoppedAt f (lines ++ line ∷ []) old new fault
 stopped_after f lines line old mid new Read has h = h
@@ -128,12 +127,12 @@ stopped_after f lines line old mid new Memory has (zero, low, moves, is) = (
 stopped_after f lines line old mid new Memory has (suc n, low, moves, is) = absurd (omega arith)
 
 -- what is answered to one line is answered to another, where each reply to it is one to that
-pub record IsHeardAs (f : AnyFile) (line other : List ℕ) : Type 0 where
-  pub replies : (reply : List ℕ) → IsReplyBy f line reply → IsReplyBy f other reply
+pub record IsHeardAs (f : Book) (line other : List ℕ) : Type 0 where
+  pub replies : (reply : List ℕ) → IsReplyIn f line reply → IsReplyIn f other reply
   pub moves : IsMovesLine f line → IsMovesLine f other
   pub records : IsRecordsLine f line → IsRecordsLine f other
 
-pub replies_as : (f : AnyFile) (line other : List ℕ) (old new : Option (List ℕ))
+pub replies_as : (f : Book) (line other : List ℕ) (old new : Option (List ℕ))
     → IsHeardAs f line other
     → HasReplies f (line ∷ []) old new → HasReplies f (other ∷ []) old new
 replies_as f line other old new same has =
@@ -145,7 +144,7 @@ replies_as f line other old new same has =
           has.written;
     }
 
-pub stopped_as : (f : AnyFile) (line other : List ℕ) (old new : Option (List ℕ)) (fault : RunFault)
+pub stopped_as : (f : Book) (line other : List ℕ) (old new : Option (List ℕ)) (fault : RunFault)
     → IsHeardAs f line other → IsStoppedAt f (line ∷ []) old new fault
     → IsStoppedAt f (other ∷ []) old new fault
 stopped_as f line other old new Read same h = h
@@ -222,7 +221,7 @@ rest_more other done (c ∷ more) none =
     )
 
 -- .. and are kept
-pub bytes_kept : (f : AnyFile) (done : List ℕ) (start now : Option (List ℕ))
+pub bytes_kept : (f : Book) (done : List ℕ) (start now : Option (List ℕ))
     (kept new more : List ℕ)
     → IsAnswered f done start now kept
     → (pieces (done ++ more) ≡ pieces done) × (rest_of (done ++ more) ≡ rest_of done ++ more)
@@ -288,19 +287,15 @@ module _ (short : (line : List ℕ) (q : Query) → IsQuery line q → length li
       absurd (not_asked line q long is)
 
   -- and the reply to one is the reply to any other
-  alike : (f : AnyFile) (line other : List ℕ) → 55 < length line → 55 < length other
-      → (reply : List ℕ) → IsReplyBy f line reply → IsReplyBy f other reply
-  alike (database_file f) line other long long_other reply (answered q answer accepted is e) =
+  alike : (f : Book) (line other : List ℕ) → 55 < length line → 55 < length other
+      → (reply : List ℕ) → IsReplyIn f line reply → IsReplyIn f other reply
+  alike f line other long long_other reply (answered q answer accepted is e) =
       absurd (not_asked line q long accepted.query)
-  alike (database_file f) line other long long_other reply (refused why is e) =
-      refused why (refused_alike (bound_of f) line other long long_other why is) e
-  alike (board_file f) line other long long_other reply (answered q answer accepted is e) =
-      absurd (not_asked line q long accepted.query)
-  alike (board_file f) line other long long_other reply (refused why is e) =
-      refused why (refused_alike (bound_of f) line other long long_other why is) e
+  alike f line other long long_other reply (refused why is e) =
+      refused why (refused_alike f.bound line other long long_other why is) e
 
   -- so all long lines are heard alike
-  long_alike : (f : AnyFile) (line other : List ℕ) → 55 < length line → 55 < length other
+  long_alike : (f : Book) (line other : List ℕ) → 55 < length line → 55 < length other
       → IsHeardAs f line other
   long_alike f line other long long_other = record {
     replies = alike f line other long long_other;
@@ -309,9 +304,9 @@ module _ (short : (line : List ℕ) (q : Query) → IsQuery line q → length li
   }
 
   -- a line is itself
-  itself : (f : AnyFile) (line other : List ℕ) → line ≡ other → IsHeardAs f line other
+  itself : (f : Book) (line other : List ℕ) → line ≡ other → IsHeardAs f line other
   itself f line other e = record {
-    replies = λ reply is. subst (λ l. IsReplyBy f l reply) e is;
+    replies = λ reply is. subst (λ l. IsReplyIn f l reply) e is;
     moves = λ w. subst (IsMovesLine f) e w;
     records = λ w. subst (IsRecordsLine f) e w;
   }
@@ -325,7 +320,7 @@ module _ (short : (line : List ℕ) (q : Query) → IsQuery line q → length li
       by false = omega arith
 
   -- the first 130 bytes of a piece are heard as the whole piece
-  pub kept_piece : (f : AnyFile) (rest : List ℕ) → IsHeardAs f (without_return (take 130 rest))
+  pub kept_piece : (f : Book) (rest : List ℕ) → IsHeardAs f (without_return (take 130 rest))
       (without_return rest)
   kept_piece f rest = by (cases_lt 130 (length rest))
     where
@@ -338,7 +333,7 @@ module _ (short : (line : List ℕ) (q : Query) → IsQuery line q → length li
           (ap without_return (take_all 130 rest all))
 
   -- and so are those of a last line
-  pub kept_rest : (f : AnyFile) (rest : List ℕ) → IsHeardAs f (take 130 rest) rest
+  pub kept_rest : (f : Book) (rest : List ℕ) → IsHeardAs f (take 130 rest) rest
   kept_rest f rest = by (cases_lt 130 (length rest))
     where
       by : (130 < length rest) ⊎ (length rest ≤ 130) → IsHeardAs f (take 130 rest) rest
@@ -347,7 +342,7 @@ module _ (short : (line : List ℕ) (q : Query) → IsQuery line q → length li
       by (inr all) = itself f (take 130 rest) rest (take_all 130 rest all)
 
   -- a line feed ends the line that is kept, which was answered
-  pub line_ended : (f : AnyFile) (done : List ℕ) (start mid new : Option (List ℕ))
+  pub line_ended : (f : Book) (done : List ℕ) (start mid new : Option (List ℕ))
       (kept empty : List ℕ)
       → IsAnswered f done start mid kept
       → HasReplies f (without_return kept ∷ []) mid new
@@ -370,7 +365,7 @@ module _ (short : (line : List ℕ) (q : Query) → IsQuery line q → length li
       )
 
   -- .. or stopped there
-  pub line_stopped : (f : AnyFile) (done : List ℕ) (start mid new : Option (List ℕ)) (kept : List ℕ)
+  pub line_stopped : (f : Book) (done : List ℕ) (start mid new : Option (List ℕ)) (kept : List ℕ)
       (fault : RunFault) → IsAnswered f done start mid kept
       → IsStoppedAt f (without_return kept ∷ []) mid new fault
       → pieces (done ++ 10 ∷ []) ≡ pieces done ++ rest_of done ∷ []
@@ -385,7 +380,7 @@ module _ (short : (line : List ℕ) (q : Query) → IsQuery line q → length li
       (kept_piece f (rest_of done)) here))
 
   -- the last line was answered
-  pub last_ended : (f : AnyFile) (done : List ℕ) (start mid new : Option (List ℕ)) (kept : List ℕ)
+  pub last_ended : (f : Book) (done : List ℕ) (start mid new : Option (List ℕ)) (kept : List ℕ)
       → IsAnswered f done start mid kept → 0 < length kept
       → HasReplies f (kept ∷ []) mid new
       → HasReplies f (lines_of done) start new
@@ -401,7 +396,7 @@ module _ (short : (line : List ℕ) (q : Query) → IsQuery line q → length li
       )
 
   -- .. or stopped there
-  pub last_stopped : (f : AnyFile) (done : List ℕ) (start mid new : Option (List ℕ)) (kept : List ℕ)
+  pub last_stopped : (f : Book) (done : List ℕ) (start mid new : Option (List ℕ)) (kept : List ℕ)
       (fault : RunFault) → IsAnswered f done start mid kept → 0 < length kept
       → IsStoppedAt f (kept ∷ []) mid new fault → IsStoppedAt f (lines_of done) start new fault
   last_stopped f done start mid new kept fault is some stopped =
@@ -412,7 +407,7 @@ module _ (short : (line : List ℕ) (q : Query) → IsQuery line q → length li
       (stopped_as f (take 130 line) line mid new fault (kept_rest f line) here))
 
 -- where nothing is kept there is no last line
-pub no_last : (f : AnyFile) (done : List ℕ) (start now : Option (List ℕ)) (kept : List ℕ)
+pub no_last : (f : Book) (done : List ℕ) (start now : Option (List ℕ)) (kept : List ℕ)
     → IsAnswered f done start now kept → length kept ≡ 0
     → HasReplies f (lines_of done) start now
     × (length (lines_of done) ≡ length (whole_lines done) + 0)
@@ -460,7 +455,7 @@ piece_rest done chunk start place is =
     ∙ chunk_parts done chunk (start + place + 1)
 
 -- what stopped the first bytes of an input stops more of it
-pub stopped_before : (f : AnyFile) (done more all : List ℕ) (later : List (List ℕ))
+pub stopped_before : (f : Book) (done more all : List ℕ) (later : List (List ℕ))
     (start now : Option (List ℕ)) (fault : RunFault) → done ++ more ≡ all
     → pieces (done ++ more) ≡ pieces done ++ later
     → IsStoppedAt f (whole_lines done) start now fault
@@ -472,7 +467,7 @@ stopped_before f done more all later start now fault e cut stopped =
     (stopped_longer f (whole_lines done) (map without_return later) start now fault stopped))
 
 -- .. and all lines of it
-pub stopped_in : (f : AnyFile) (done more all : List ℕ) (later : List (List ℕ))
+pub stopped_in : (f : Book) (done more all : List ℕ) (later : List (List ℕ))
     (start now : Option (List ℕ))
     (fault : RunFault) → done ++ more ≡ all
     → pieces (done ++ more) ≡ pieces done ++ later
@@ -483,7 +478,7 @@ stopped_in f done more all later start now fault e cut stopped =
     (stopped_before f done more all later start now fault e cut stopped)
 
 -- a flush leaves what was written
-pub flushed : (f : AnyFile) (lines : List (List ℕ)) (old mid new : Option (List ℕ))
+pub flushed : (f : Book) (lines : List (List ℕ)) (old mid new : Option (List ℕ))
     → HasReplies f lines old mid → Keeps mid new → HasReplies f lines old new
 flushed f lines old mid new has kept = record {
   text = has.text;
@@ -492,13 +487,13 @@ flushed f lines old mid new has kept = record {
       (appends_twice old mid new has.text [] has.written (appends_kept mid new kept));
 }
 
-pub flushed_answers : (f : AnyFile) (done : List ℕ) (old mid new : Option (List ℕ)) (kept : List ℕ)
+pub flushed_answers : (f : Book) (done : List ℕ) (old mid new : Option (List ℕ)) (kept : List ℕ)
     → IsAnswered f done old mid kept → Keeps mid new → IsAnswered f done old new kept
 flushed_answers f done old mid new kept is stays =
     record { replies = flushed f (whole_lines done) old mid new is.replies stays; held = is.held }
 
 -- a writer that failed after all replies has a prefix of them
-pub failed_flush : (f : AnyFile) (lines : List (List ℕ)) (old mid new : Option (List ℕ))
+pub failed_flush : (f : Book) (lines : List (List ℕ)) (old mid new : Option (List ℕ))
     → HasReplies f lines old mid → Keeps mid new → IsStoppedAt f lines old new Write
 failed_flush f lines old mid new has kept =
     let now = flushed f lines old mid new has kept in
@@ -545,7 +540,7 @@ read_front input None done h = absurd h
 read_front input (Some rest) done h = (rest, sym h)
 
 -- a stop at the lines of an input is one of its run
-pub run_stopped : (f : AnyFile) (input : List ℕ) (left old new : Option (List ℕ)) (fault : RunFault)
+pub run_stopped : (f : Book) (input : List ℕ) (left old new : Option (List ℕ)) (fault : RunFault)
     → IsStoppedAt f (lines_of input) old new fault
     → IsRunStopped f input left old new fault
 run_stopped f input left old new Read h = absurd h

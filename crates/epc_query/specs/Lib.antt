@@ -1,7 +1,7 @@
 pub mod Answers
+pub mod Kinds
 pub mod Faults
 pub mod Choices
-pub mod AnyFiles
 pub mod Runs
 pub mod LevelMeans
 pub mod UsedReads

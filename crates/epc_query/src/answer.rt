@@ -1,11 +1,10 @@
 //! The answer to a line.
 ghost use Rattle.std.specs.Prelude.{◌≡◌, ℕ, List, Err, IfOk, IfErr};
-ghost use Rattle.race_model.specs.Files.{bound_of};
+ghost use Rattle.race_model.specs.Files.{bound_of, book_of};
 ghost use Rattle.race_model.specs.Queries.{IsAccepted};
 ghost use Rattle.db_reader.specs.Telling.{WhereTold};
 ghost use Rattle.certificate.specs.Databases.{Stays};
 ghost use Rattle.query_text.specs.Readings.{asked, IsAnswerable};
-ghost use Rattle.epc_query.specs.AnyFiles.{database_file};
 ghost use Rattle.epc_query.specs.Answers.{IsReplyTo};
 ghost use Rattle.epc_query.specs.Faults.{IsFaultOfQuery, IsHeard, IsStopOf};
 
@@ -100,7 +99,7 @@ pub fn answer_line<T: Table>(
 impl<T: Table> Answers<12288> for Checked<T> {
     ghost seen = { λ checked. checked };
 
-    ghost kind = { database_file };
+    ghost book = { book_of };
 
     fn write_answer<W: Write>(
         &mut self,
@@ -110,6 +109,7 @@ impl<T: Table> Answers<12288> for Checked<T> {
         writer: &mut W,
     ) -> Result<(), RunFault> {
         laws::law_lines();
+        laws::law_replies();
         crate::laws::law_reply_text();
         let _bound = self.bound();
         match answer_line(alloc, self, line) {

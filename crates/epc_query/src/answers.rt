@@ -2,6 +2,7 @@
 //! line by lent bytes.
 ghost use Rattle.std.specs.Prelude.{◌≡◌, ℕ, List, [], ◌∷◌, Some, Err, MatchResult, IfErr, ◌+◌, ◌*◌, ◌≤◌, ◌++◌, IsSome};
 ghost use Rattle.arrayvec.specs.ArrayString.{array_string_len};
+ghost use Rattle.race_model.specs.Books.{Book};
 ghost use Rattle.race_model.specs.Files.{version_of, bound_of};
 ghost use Rattle.race_model.specs.Positions.{pips};
 ghost use Rattle.race_model.specs.Plays.{Legal};
@@ -10,7 +11,6 @@ ghost use Rattle.race_model.specs.Replies.{IsAnswerOver, IsReplyOver};
 ghost use Rattle.query_text.specs.Readings.{asked, IsAnswerable};
 ghost use Rattle.db_reader.specs.Telling.{WhereTold};
 ghost use Rattle.certificate.specs.Databases.{Database, Stays};
-ghost use Rattle.epc_query.specs.AnyFiles.{AnyFile};
 ghost use Rattle.epc_query.specs.Runs.{HasReplies, IsStoppedAt};
 ghost use Rattle.epc_query.specs.UsedReads.{IsLineFault};
 
@@ -32,8 +32,8 @@ pub trait Answers<const ROOM: usize> {
     // a read has failed
     ghost seen: { Self → Database };
 
-    // of which kind these bytes are
-    ghost kind: { List ℕ → AnyFile };
+    // what these bytes say
+    ghost book: { List ℕ → Book };
 
     /// Writes the reply to a line, which comes without its line feed, by way of a text that the
     /// lines share. Refused as `Table`, `Memory` and `Write`, as `run` is.
@@ -45,9 +45,9 @@ pub trait Answers<const ROOM: usize> {
         writer: &mut W,
     ) -> Result<(), RunFault>
         ensures answered { WhereTold (seen self.old).told (λ file. MatchResult result
-            (λ _. HasReplies (kind file) (line.now ∷ [])
+            (λ _. HasReplies (book file) (line.now ∷ [])
             (W.contents writer.old) (W.contents writer.new))
-            (IsStoppedAt (kind file) (line.now ∷ [])
+            (IsStoppedAt (book file) (line.now ∷ [])
             (W.contents writer.old) (W.contents writer.new))) }
         ensures cause { IfErr result IsLineFault }
         ensures stays { Stays (seen self.old) (seen self.new) (result ≡ Err RunFault.Table) };
@@ -62,7 +62,7 @@ impl<L: Replies<ROOM>, const ROOM: usize> Answers<ROOM> for L {
       failures = 0;
     } };
 
-    ghost kind = { L.kind };
+    ghost book = { L.said };
 
     fn write_answer<W: Write>(
         &mut self,

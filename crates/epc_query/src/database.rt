@@ -18,7 +18,6 @@ ghost use Rattle.race_model.specs.Strategies.{IsLeast, count_of};
 ghost use Rattle.legal_plays.specs.MoveLists.{moves_of};
 ghost use Rattle.ranking.specs.Tables.{IsRankTable};
 ghost use Rattle.certificate.specs.CheckFaults.{IsFirst};
-ghost use Rattle.epc_query.specs.AnyFiles.{database_file};
 ghost use Rattle.epc_query.specs.LevelMeans.{HasLevel};
 ghost use Rattle.epc_query.specs.Choices.{result_of};
 ghost use Rattle.epc_query.specs.Opened.{IsOpened};
@@ -38,6 +37,7 @@ use fixed_fraction::{Fraction, Scaled, Spread, mean};
 use home_board::Position;
 use legal_plays::{Play, Roll};
 use query_text::{Level, Text, put_dist};
+use race_model::laws;
 use ranking::RankTable;
 use std::marker::Model;
 
@@ -69,13 +69,13 @@ impl<'a> Model for Database<'a> {
         IsOpened database.bytes.now database.version database.bound database.ranks.now };
 }
 
-/// What is kept of bytes that were accepted.
+/// What is kept of bytes that were accepted, of either kind.
 #[derive(Clone, Copy, Debug, PartialEq, Eq)]
 pub struct Accepted {
-    /// The version of the file, 1 or 2.
+    /// The version of the file, 1 to 3.
     pub version: u16,
 
-    /// The pip bound, 0 to 58.
+    /// The pip bound, 0 to 90.
     pub bound: u8,
 }
 
@@ -305,11 +305,12 @@ impl<'a> Lent for Database<'a> {
 
     ghost bytes = { λ database. database };
 
-    ghost kind = { database_file };
+    ghost said = { book_of };
 
     ghost book = { book_of };
 
     fn bound(&self) -> u8 {
+        laws::law_replies();
         Database::bound(self)
     }
 

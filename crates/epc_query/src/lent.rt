@@ -6,9 +6,8 @@ ghost use Rattle.race_model.specs.Ranks.{rank as rank_of};
 ghost use Rattle.race_model.specs.Books.{Book, mean_in, play_in, IsRightBook};
 ghost use Rattle.race_model.specs.LocalEquations.{IsLong};
 ghost use Rattle.race_model.specs.Queries.{dist_query, moves_query};
-ghost use Rattle.race_model.specs.Replies.{IsAnswerOver, IsReplyOver};
+ghost use Rattle.race_model.specs.Replies.{IsAnswerOver, IsReplyIn, IsReplyOver};
 ghost use Rattle.ranking.specs.Tables.{IsRankTable};
-ghost use Rattle.epc_query.specs.AnyFiles.{AnyFile, IsReplyBy};
 
 use arrayvec::ArrayString;
 use home_board::Position;
@@ -25,10 +24,10 @@ pub trait Lent {
     // the bytes
     ghost bytes: { Self → List ℕ };
 
-    // of which kind they are
-    ghost kind: { List ℕ → AnyFile };
+    // what bytes of this kind say
+    ghost said: { List ℕ → Book };
 
-    // what they say
+    // what these say
     ghost book: { Self → Book };
 
     /// The pip bound.
@@ -39,7 +38,7 @@ pub trait Lent {
         ensures rolls { suc (book self.now).further ≡ Self.Mean.most }
         ensures replies { (line text : List ℕ)
             → IsReplyOver Self.Mean.whole (book self.now) line text
-            → IsReplyBy (kind (bytes self.now)) line text }
+            → IsReplyIn (said (bytes self.now)) line text }
         ensures range { result ≤ 90 };
 
     /// The table of ranks.

@@ -41,10 +41,10 @@ pub(crate) fn answer_chunk<const ROOM: usize, A: Answers<ROOM>, W: Write>(
     requires { length chunk.now < 2 ^ 32 }
     ensures answered { WhereTold (A.seen answers.old).told
         (λ file. (done : List ℕ) (start : Option (List ℕ))
-        → IsAnswered (A.kind file) done start (W.contents writer.old) held.old → MatchResult result
-        (λ n. IsAnswered (A.kind file) (done ++ chunk.now) start (W.contents writer.new) held.new
+        → IsAnswered (A.book file) done start (W.contents writer.old) held.old → MatchResult result
+        (λ n. IsAnswered (A.book file) (done ++ chunk.now) start (W.contents writer.new) held.new
         × (length (whole_lines (done ++ chunk.now)) ≡ length (whole_lines done) + n))
-        (IsStoppedAt (A.kind file) (whole_lines (done ++ chunk.now)) start
+        (IsStoppedAt (A.book file) (whole_lines (done ++ chunk.now)) start
         (W.contents writer.new))) }
     ensures few { IfOk result (λ n. n ≤ length chunk.now) }
     ensures cause { IfErr result IsLineFault }
@@ -83,10 +83,10 @@ pub(crate) fn answer_last<const ROOM: usize, A: Answers<ROOM>, W: Write>(
 ) -> Result<u64, RunFault>
     ensures answered { WhereTold (A.seen answers.old).told
         (λ file. (done : List ℕ) (start : Option (List ℕ))
-        → IsAnswered (A.kind file) done start (W.contents writer.old) held.now → MatchResult result
-        (λ n. HasReplies (A.kind file) (lines_of done) start (W.contents writer.new)
+        → IsAnswered (A.book file) done start (W.contents writer.old) held.now → MatchResult result
+        (λ n. HasReplies (A.book file) (lines_of done) start (W.contents writer.new)
         × (length (lines_of done) ≡ length (whole_lines done) + n))
-        (IsStoppedAt (A.kind file) (lines_of done) start (W.contents writer.new))) }
+        (IsStoppedAt (A.book file) (lines_of done) start (W.contents writer.new))) }
     ensures few { IfOk result (λ n. n ≤ 1) }
     ensures cause { IfErr result IsLineFault }
     ensures stays { Stays (A.seen answers.old) (A.seen answers.new) (result ≡ Err RunFault.Table) }

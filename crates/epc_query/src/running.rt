@@ -2,10 +2,10 @@
 ghost use Rattle.std.specs.Prelude.{◌≡◌, ℕ, ◌+◌, ◌^◌, ◌<◌, ◌≤◌, List, ◌++◌, length, Option};
 ghost use Rattle.std.specs.Prelude.{Err, MatchResult, IfOk, IfErr, OnErr, false};
 ghost use Rattle.std.specs.Io.KnownBytes.{Keeps, IsAtEnd};
+ghost use Rattle.race_model.specs.Files.{book_of};
 ghost use Rattle.race_model.specs.InputLines.{whole_lines, lines_of};
 ghost use Rattle.db_reader.specs.Telling.{WhereTold};
 ghost use Rattle.certificate.specs.Databases.{Stays};
-ghost use Rattle.epc_query.specs.AnyFiles.{database_file};
 ghost use Rattle.epc_query.specs.Runs.{HasReplies, IsStoppedAt, IsAnswered, IsRunStopped};
 ghost use Rattle.epc_query.specs.UsedReads.{HasUsed, IsLineFault};
 
@@ -47,11 +47,11 @@ pub fn run<T: Table, R: Read, W: Write>(
     ensures done { WhereTold checked.old.told (λ file. WhereTold (R.remaining reader.old)
         (λ input. IfOk result
         (λ n. IsAtEnd (R.remaining reader.new) × (n ≡ length (lines_of input))
-        × HasReplies (database_file file) (lines_of input)
+        × HasReplies (book_of file) (lines_of input)
         (W.contents writer.old) (W.contents writer.new)))) }
     ensures stopped { WhereTold checked.old.told (λ file. WhereTold (R.remaining reader.old)
         (λ input. IfErr result
-        (IsRunStopped (database_file file) input (R.remaining reader.new) (W.contents writer.old)
+        (IsRunStopped (book_of file) input (R.remaining reader.new) (W.contents writer.old)
         (W.contents writer.new)))) }
     ensures used { WhereTold (R.remaining reader.old)
         (λ input. IfErr result (HasUsed turns input (R.remaining reader.new))) }
@@ -73,11 +73,11 @@ pub fn run_lines<const ROOM: usize, A: Answers<ROOM>, R: Read, W: Write>(
     ensures done { WhereTold (A.seen answers.old).told (λ file. WhereTold (R.remaining reader.old)
         (λ input. IfOk result
         (λ n. IsAtEnd (R.remaining reader.new) × (n ≡ length (lines_of input))
-        × HasReplies (A.kind file) (lines_of input)
+        × HasReplies (A.book file) (lines_of input)
         (W.contents writer.old) (W.contents writer.new)))) }
     ensures stopped { WhereTold (A.seen answers.old).told (λ file.
         WhereTold (R.remaining reader.old) (λ input. IfErr result
-        (IsRunStopped (A.kind file) input (R.remaining reader.new) (W.contents writer.old)
+        (IsRunStopped (A.book file) input (R.remaining reader.new) (W.contents writer.old)
         (W.contents writer.new)))) }
     ensures used { WhereTold (R.remaining reader.old)
         (λ input. IfErr result (HasUsed turns input (R.remaining reader.new))) }
@@ -112,10 +112,10 @@ fn answer_end<const ROOM: usize, A: Answers<ROOM>, W: Write>(
 ) -> Result<u64, RunFault>
     ensures answered { WhereTold (A.seen answers.old).told
         (λ file. (done : List ℕ) (start : Option (List ℕ))
-        → IsAnswered (A.kind file) done start (W.contents writer.old) held.now → MatchResult result
-        (λ n. HasReplies (A.kind file) (lines_of done) start (W.contents writer.new)
+        → IsAnswered (A.book file) done start (W.contents writer.old) held.now → MatchResult result
+        (λ n. HasReplies (A.book file) (lines_of done) start (W.contents writer.new)
         × (length (lines_of done) ≡ length (whole_lines done) + n))
-        (IsStoppedAt (A.kind file) (lines_of done) start (W.contents writer.new))) }
+        (IsStoppedAt (A.book file) (lines_of done) start (W.contents writer.new))) }
     ensures few { IfOk result (λ n. n ≤ 1) }
     ensures cause { IfErr result IsLineFault }
     ensures stays { Stays (A.seen answers.old) (A.seen answers.new) (result ≡ Err RunFault.Table) }

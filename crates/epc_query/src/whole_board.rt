@@ -19,11 +19,11 @@ ghost use Rattle.legal_plays.specs.MoveLists.{moves_of};
 ghost use Rattle.ranking.specs.Tables.{IsRankTable};
 ghost use Rattle.fixed_fraction.specs.Board.{board_whole, part};
 ghost use Rattle.epc_query.specs.Opened.{IsOpenedBoard};
-ghost use Rattle.epc_query.specs.AnyFiles.{board_file};
 ghost use Rattle.epc_query.specs.Choices.{result_of};
 
 use crate::answers::answer;
 use crate::choices::{MOST_RESULTS, RankedChoice};
+use crate::database::Accepted;
 use crate::lent::{Lent, Replies};
 use crate::lent_board::LentBoard;
 use crate::lent_moves::{list, put_list};
@@ -72,16 +72,16 @@ impl<'a> Model for Board<'a> {
 }
 
 impl<'a> Board<'a> {
-    /// The board file of bytes that were accepted, by their header and a table of ranks.
-    pub fn accepted(bytes: &'a [u8], header: BoardHeader, ranks: &'a RankTable) -> Board<'a>
+    /// The board file of bytes that were accepted before, by what was kept of that.
+    pub fn kept(bytes: &'a [u8], accepted: Accepted, ranks: &'a RankTable) -> Board<'a>
         requires right { IsRightBoard bytes.now }
-        requires bound { header.bound ≡ bound_of bytes.now }
+        requires bound { accepted.bound ≡ bound_of bytes.now }
         requires table { IsRankTable ranks.now }
         ensures { result ≡ bytes.now }
     {
         Board {
             bytes,
-            header,
+            header: BoardHeader::new(accepted.bound).unwrap(),
             ranks,
         }
     }
@@ -242,7 +242,7 @@ impl<'a> Lent for Board<'a> {
 
     ghost bytes = { λ board. board };
 
-    ghost kind = { board_file };
+    ghost said = { board_book };
 
     ghost book = { board_book };
 

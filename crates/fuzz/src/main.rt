@@ -20,8 +20,9 @@ use crate::plain::compare_positions;
 use crate::plain_board::{Places, PlainBoard};
 use crate::random::Random;
 use certificate::{Checked, check, check_board};
+use db_layout::BOARD_VERSION;
 use db_reader::Whole;
-use epc_query::Board;
+use epc_query::{Accepted, Board};
 use ranking::{RankTable, Ranks};
 use retrograde::build;
 use std::alloc::Global;
@@ -129,7 +130,10 @@ fn opened<'a>(bytes: &'a [u8], table: &'a RankTable) -> Option<Board<'a>>
     requires { IsRankTable table.now }
 {
     match check_board(bytes) {
-        Ok(header) => Some(Board::accepted(bytes, header, table)),
+        Ok(header) => {
+            let (version, bound) = (BOARD_VERSION, header.bound);
+            Some(Board::kept(bytes, Accepted { version, bound }, table))
+        }
         Err(_) => None,
     }
 }

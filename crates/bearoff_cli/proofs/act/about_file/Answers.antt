@@ -1,7 +1,6 @@
 -- What is told of the bytes that were read, which have this first fault.
-use Rattle.std.proofs.Common.{◌∙◌, inl, inr, refl, subst, sym}
+use Rattle.std.proofs.Common.{◌∙◌, None, inl, inr, refl, subst, sym}
 use Rattle.bearoff_cli.specs.FileAnswers.{IsReadFrom, about_file}
-use Rattle.bearoff_cli.specs.Kinds.{file_of, stated_file}
 use Rattle.db_layout.specs.Writes.{AppendsPart}
 use Rattle.bearoff_cli.proofs.Explained.{check_of_file, written_end}
 use Rattle.bearoff_cli.proofs.OpenedFiles.{about_is, err-weaker, says_about}
@@ -22,7 +21,7 @@ returns-clause-fault g c =
         file,
         read,
         rw c.stated_kind-kind.ensures at (first_in
-            (file_of c.stated_kind-kind.result file) _ first),
+            c.stated_kind-kind.result file _ first),
       ),
       inl refl,
     )
@@ -34,11 +33,10 @@ returns-in-Ok-accept-clause-about g c =
     let file = c.as_slice-bytes.result.now in
     let read = subst from (sym c.as_slice-bytes.ensures.value) c.in-Ok.ensures.read in
     let kind = c.stated_kind-kind.ensures in
-    let kept = c.in-Ok-accept.ensures in
+    let kept = c.in-Ok-accept.ensures.accepted in
     let right = rw kind at kept.right in
     let line = c.as_bytes.ensures.value ∙ c.as_str.ensures.value ∙ c.about_text-text.ensures in
-    let text = about_is file _ _ _ kind (rw kind at (c.version.ensures file kept.kept))
-    (rw kind at kept.bound) in
+    let text = about_is file _ _ _ kind (rw kind at kept.version) kept.bound in
     let old = g.O.Write.contents c.args.output.now in
     let new = g.O.Write.contents c.write_flushed.new.output in
     done_if c.write_flushed.result c.refused.result
@@ -52,15 +50,14 @@ returns-in-Ok-accept-clause-fault g c =
     let file = c.as_slice-bytes.result.now in
     let read = subst from (sym c.as_slice-bytes.ensures.value) c.in-Ok.ensures.read in
     let kind = c.stated_kind-kind.ensures in
-    let kept = c.in-Ok-accept.ensures in
+    let kept = c.in-Ok-accept.ensures.accepted in
     let right = rw kind at kept.right in
     let line = c.as_bytes.ensures.value ∙ c.as_str.ensures.value ∙ c.about_text-text.ensures in
-    let text = about_is file _ _ _ kind (rw kind at (c.version.ensures file kept.kept))
-    (rw kind at kept.bound) in
+    let text = about_is file _ _ _ kind (rw kind at kept.version) kept.bound in
     let old = g.O.Write.contents c.args.output.now in
     let new = g.O.Write.contents c.write_flushed.new.output in
     written_end from c.args.path.now old new c.write_flushed.result c.refused.result
-    c.write_flushed.ensures.cause (read_part stated_file from
+    c.write_flushed.ensures.cause (read_part None from
     (λ f. AppendsPart old new (about_file f)) file old new c.write_flushed.result read right
     (err-weaker c.write_flushed.result (λ part. subst (λ text. AppendsPart old new text) text part)
     (rw line at c.write_flushed.ensures.part))) c.refused.ensures.done c.refused.ensures.fault

@@ -1,6 +1,5 @@
 -- The replies over bytes that were accepted.
 use Rattle.std.proofs.Common.{◌≡◌, Err, rules}
-use Rattle.bearoff_cli.specs.Kinds.{file_of}
 use Rattle.bearoff_cli.proofs.StoppedRuns.{may_be_stopped}
 use Rattle.bearoff_cli.proofs.ToldFaults.{first_in}
 use Rattle.bearoff_cli.proofs.act.answer_bytes.Goals as goal
@@ -13,4 +12,4 @@ pub returns-in_err-kept-clause-fault : goal.returns-in_err-kept-clause-fault
 returns-in_err-kept-clause-fault g c =
     let same : c.from_residual.result ≡ Err c.in_err-kept.field-0.0 =
     search rules in
-    rw same (first_in (file_of c.args.kind c.args.bytes.now) _ c.in_err-kept.ensures.fault)
+    rw same (first_in c.args.kind c.args.bytes.now _ c.in_err-kept.ensures.fault)

@@ -1,7 +1,7 @@
 use Rattle.std.proofs.Common.{ℕ, List, ◌++◌, Option, Result, Ok, Err, IfOk, ap, ◌∙◌}
 use Rattle.race_model.specs.BuiltFile.{IsBuilt}
 use Rattle.retrograde.specs.UsualVersion.{usual_version}
-use Rattle.epc_query.specs.AnyFiles.{database_file}
+use Rattle.db_layout.specs.declared.stated.Kind.TheVariants.{Database}
 use Rattle.bearoff_cli.specs.FileAnswers.{AreAnswered, AreAnsweredOver}
 use Rattle.race_model.proofs.RightFiles.Right.{right_of_local}
 use Rattle.bearoff_cli.proofs.StoppedRuns.{built_stopped}
@@ -10,7 +10,7 @@ use Rattle.bearoff_cli.proofs.act.answer_default.Goals as goal
 -- answers over the built database
 over : {A E : Type 0} (bound : ℕ) (file given : List ℕ) (left old new : Option (List ℕ))
     (r : Result A E) → IsBuilt (usual_version bound) bound file
-    → IfOk r (λ _. AreAnswered (database_file file) given left old new)
+    → IfOk r (λ _. AreAnswered Database file given left old new)
     → IfOk r (λ _. AreAnsweredOver bound given left old new)
 over bound file given left old new (Ok x) built is =
     record { file = file; built = built; answered = is }

@@ -1,6 +1,6 @@
 -- The replies over the bytes that were read, which are a right file.
 use Rattle.std.proofs.Common.{subst, sym}
-use Rattle.bearoff_cli.specs.Kinds.{file_as}
+use Rattle.bearoff_cli.specs.Kinds.{kind_as}
 use Rattle.bearoff_cli.specs.FileAnswers.{AreAnsweredFrom, IsReadFrom}
 use Rattle.bearoff_cli.specs.StoppedRuns.{AreStopped, IsNothingOr}
 use Rattle.bearoff_cli.proofs.Requests.{told_done, told_left}
@@ -18,10 +18,10 @@ returns-clause-answers g c =
     let old = g.O.Write.contents c.args.output.now in
     let new = g.O.Write.contents c.answer_bytes.new.output in
     told_done c.answer_bytes.result (g.I.Read.remaining c.args.input.now)
-    (λ given. AreAnsweredFrom (file_as c.args.kind) (IsReadFrom g.D.Reader.Read.remaining
+    (λ given. AreAnsweredFrom c.args.kind (IsReadFrom g.D.Reader.Read.remaining
     (g.D.Disk.paths c.args.disk.now) (g.D.Disk.told c.args.disk.now) c.args.path.now)
     given left old new)
-    (λ given told. over_read (file_as c.args.kind) (IsReadFrom g.D.Reader.Read.remaining
+    (λ given told. over_read c.args.kind (IsReadFrom g.D.Reader.Read.remaining
     (g.D.Disk.paths c.args.disk.now) (g.D.Disk.told c.args.disk.now) c.args.path.now)
     c.as_slice-bytes.result.now given left old new c.answer_bytes.result read
     (rw c.kind_of.ensures at (c.answer_bytes.ensures.answers given told)))
@@ -35,10 +35,10 @@ returns-clause-left g c =
     let old = g.O.Write.contents c.args.output.now in
     let new = g.O.Write.contents c.answer_bytes.new.output in
     told_left c.answer_bytes.result (g.I.Read.remaining c.args.input.now)
-    (λ given fault. IsNothingOr (file_as c.args.kind) (IsReadFrom g.D.Reader.Read.remaining
+    (λ given fault. IsNothingOr c.args.kind (IsReadFrom g.D.Reader.Read.remaining
     (g.D.Disk.paths c.args.disk.now) (g.D.Disk.told c.args.disk.now) c.args.path.now)
-    (λ f. AreStopped (file_as c.args.kind f) given left old new fault) old new)
-    (λ given told. read_stopped (file_as c.args.kind) (IsReadFrom g.D.Reader.Read.remaining
+    (λ f. AreStopped (kind_as c.args.kind f) f given left old new fault) old new)
+    (λ given told. read_stopped c.args.kind (IsReadFrom g.D.Reader.Read.remaining
     (g.D.Disk.paths c.args.disk.now) (g.D.Disk.told c.args.disk.now) c.args.path.now)
     c.as_slice-bytes.result.now given left old new c.answer_bytes.result read
     (rw c.kind_of.ensures at (c.answer_bytes.ensures.left given told)))
@@ -49,5 +49,5 @@ returns-clause-fault g c =
     (g.D.Disk.paths c.args.disk.now) (g.D.Disk.told c.args.disk.now) c.args.path.now) in
     let file = c.as_slice-bytes.result.now in
     let read = subst from (sym c.as_slice-bytes.ensures.value) c.in_ok-file.ensures.read in
-    own_of (file_as c.args.kind) from file c.answer_bytes.result read
+    own_of c.args.kind from file c.answer_bytes.result read
     (rw c.kind_of.ensures at c.answer_bytes.ensures.fault)

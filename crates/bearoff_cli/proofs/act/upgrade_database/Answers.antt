@@ -6,7 +6,7 @@ use Rattle.std.proofs.lemmas.Result.{IfErr-weaker, IfOk-weaker}
 use Rattle.race_model.specs.Ranks.{count_to}
 use Rattle.race_model.specs.Files.{version_of}
 use Rattle.race_model.specs.RightFiles.{IsRightDatabase}
-use Rattle.epc_query.specs.AnyFiles.{database_file}
+use Rattle.db_layout.specs.declared.stated.Kind.TheVariants.{Database}
 use Rattle.bearoff_cli.specs.Lines.{status_of}
 use Rattle.bearoff_cli.specs.FileAnswers.{IsReadFrom}
 use Rattle.bearoff_cli.specs.StoppedRuns.{SaysUpgradedPart}
@@ -81,7 +81,7 @@ returns-clause-left g c =
     let old = g.O.Write.contents c.args.output.now in
     let new = g.O.Write.contents c.write_flushed.new.output in
     let line = c.as_bytes.ensures.value ∙ c.as_str.ensures.value ∙ c.count_line-line.ensures in
-    read_part database_file (IsReadFrom g.D.Reader.Read.remaining
+    read_part (Some Database) (IsReadFrom g.D.Reader.Read.remaining
     (g.D.Disk.paths c.args.disk.now) (g.D.Disk.told c.args.disk.now) c.args.old.now)
     (λ f. SaysUpgradedPart f old new) file old new
     c.write_flushed.result read right (err-weaker c.write_flushed.result

@@ -1,6 +1,6 @@
 -- The replies over bytes that were accepted.
 use Rattle.bearoff_cli.proofs.CommandFaults.{run_answer, run_turns}
-use Rattle.bearoff_cli.specs.Kinds.{file_of}
+use Rattle.epc_query.specs.Kinds.{book_as}
 use Rattle.bearoff_cli.proofs.kinds.answer.Goals as goal
 
 pub returns-in-Err-clause-left : goal.returns-in-Err-clause-left
@@ -8,7 +8,7 @@ returns-in-Err-clause-left g c given read = record {
   right = c.requires.right;
   cause = c.handed_on.result;
   fault_is = c.from.ensures;
-  stopped = c.handed_on.ensures.stopped (file_of c.args.kind c.args.bytes.now) given _ _
+  stopped = c.handed_on.ensures.stopped (book_as c.args.kind c.args.bytes.now) given _ _
       (c.in-Err.ensures.stopped given read);
 }
 

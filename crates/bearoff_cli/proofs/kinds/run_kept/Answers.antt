@@ -1,9 +1,9 @@
 -- The replies over bytes of each kind.
 use Rattle.std.proofs.Common.{Some, IfErr, IfOk, ap, subst, sym}
-use Rattle.epc_query.specs.AnyFiles.{IsRightBy, board_file, database_file}
+use Rattle.db_layout.specs.declared.stated.Kind.TheVariants.{Database, Board}
 use Rattle.epc_query.specs.Runs.{IsRunStopped}
 use Rattle.bearoff_cli.specs.FileAnswers.{AreAnswered}
-use Rattle.bearoff_cli.specs.Kinds.{file_of}
+use Rattle.epc_query.specs.Kinds.{IsRightAs, book_as}
 use Rattle.bearoff_cli.proofs.OpenedFiles.{are_answered}
 use Rattle.bearoff_cli.proofs.kinds.run_kept.Goals as goal
 
@@ -14,10 +14,22 @@ returns-in-Database-clause-answers g c given read =
     let old = g.O.Write.contents c.args.output.now in
     let new = g.O.Write.contents c.run_lines.new.writer in
     subst (λ kind. IfOk c.run_lines.result
-    (λ _. AreAnswered (file_of kind bytes) given left old new))
-    (sym c.in-Database.is) (are_answered (database_file bytes) given left old new c.run_lines.result
-    (subst (λ kind. IsRightBy (file_of kind bytes)) c.in-Database.is c.requires.right)
+    (λ _. AreAnswered kind bytes given left old new))
+    (sym c.in-Database.is) (are_answered Database bytes given left old new c.run_lines.result
+    (subst (λ kind. IsRightAs kind bytes) c.in-Database.is c.requires.right)
     (c.run_lines.ensures.done bytes (ap Some c.kept-database.ensures) given read))
+
+pub returns-in-Database-clause-stopped : goal.returns-in-Database-clause-stopped
+returns-in-Database-clause-stopped g c given read =
+    subst (λ kind. IfErr c.run_lines.result (IsRunStopped (book_as kind c.args.bytes.now)
+    given (g.I.Read.remaining c.run_lines.new.reader)
+    (g.O.Write.contents c.args.output.now)
+    (g.O.Write.contents c.run_lines.new.writer))) (sym c.in-Database.is)
+    (c.run_lines.ensures.stopped c.args.bytes.now (ap Some c.kept-database.ensures) given read)
+
+pub kept-board-requires-clause-right : goal.kept-board-requires-clause-right
+kept-board-requires-clause-right g c =
+    subst (λ kind. IsRightAs kind c.args.bytes.now) c.in-Board.is c.requires.right
 
 pub returns-in-Board-clause-answers : goal.returns-in-Board-clause-answers
 returns-in-Board-clause-answers g c given read =
@@ -26,18 +38,18 @@ returns-in-Board-clause-answers g c given read =
     let old = g.O.Write.contents c.args.output.now in
     let new = g.O.Write.contents c.run_lines-in-Board.new.writer in
     subst (λ kind. IfOk c.run_lines-in-Board.result
-    (λ _. AreAnswered (file_of kind bytes) given left old new))
-    (sym c.in-Board.is) (are_answered (board_file bytes) given left old new
+    (λ _. AreAnswered kind bytes given left old new))
+    (sym c.in-Board.is) (are_answered Board bytes given left old new
     c.run_lines-in-Board.result
-    (subst (λ kind. IsRightBy (file_of kind bytes)) c.in-Board.is c.requires.right)
-    (c.run_lines-in-Board.ensures.done bytes (ap Some c.accepted-board.ensures)
+    (subst (λ kind. IsRightAs kind bytes) c.in-Board.is c.requires.right)
+    (c.run_lines-in-Board.ensures.done bytes (ap Some c.kept-board.ensures)
     given read))
 
 pub returns-in-Board-clause-stopped : goal.returns-in-Board-clause-stopped
 returns-in-Board-clause-stopped g c given read =
-    subst (λ kind. IfErr c.run_lines-in-Board.result (IsRunStopped (file_of kind c.args.bytes.now)
+    subst (λ kind. IfErr c.run_lines-in-Board.result (IsRunStopped (book_as kind c.args.bytes.now)
     given (g.I.Read.remaining c.run_lines-in-Board.new.reader)
     (g.O.Write.contents c.args.output.now)
     (g.O.Write.contents c.run_lines-in-Board.new.writer))) (sym c.in-Board.is)
     (c.run_lines-in-Board.ensures.stopped c.args.bytes.now
-    (ap Some c.accepted-board.ensures) given read)
+    (ap Some c.kept-board.ensures) given read)

@@ -4,12 +4,12 @@ use Rattle.std.specs.Prelude.{OnErr, OnOk}
 use Rattle.race_model.specs.BoardFiles.{board_book}
 use Rattle.race_model.specs.Levels.{IsLevelLine, IsLevelLineIn}
 use Rattle.epc_query.specs.BookLevels.{HasBoardLevel}
-use Rattle.epc_query.specs.AnyFiles.{board_file, database_file}
+use Rattle.db_layout.specs.declared.stated.Kind.TheVariants.{Database, Board}
 use Rattle.epc_query.specs.LevelMeans.{HasLevel}
 use Rattle.query_text.specs.Texts.{level_text}
 use Rattle.bearoff_cli.specs.FileAnswers.{WritesLevel}
-use Rattle.bearoff_cli.specs.Kinds.{file_of}
 use Rattle.bearoff_cli.specs.StoppedRuns.{WritesLevelPart}
+use Rattle.epc_query.specs.Kinds.{IsRightAs}
 use Rattle.bearoff_cli.proofs.kinds.write_level.Given.{Over}
 use Rattle.bearoff_cli.proofs.kinds.write_level.Goals.{After-put_board_level, After-write_level}
 use Rattle.bearoff_cli.proofs.kinds.write_level.Goals as goal
@@ -30,10 +30,10 @@ returns-in-Database-clause-part g c =
     let old = g.O.Write.contents c.args.output.now in
     let new = g.O.Write.contents c.write_level.new.writer in
     let part : OnErr c.map_err.result
-    (WritesLevelPart (database_file c.args.bytes.now) c.args.pips old new) =
+    (WritesLevelPart Database c.args.bytes.now c.args.pips old new) =
     search rules in
     subst (λ kind. OnErr c.map_err.result
-    (WritesLevelPart (file_of kind c.args.bytes.now) c.args.pips old new)) (sym c.in-Database.is)
+    (WritesLevelPart kind c.args.bytes.now c.args.pips old new)) (sym c.in-Database.is)
     part
 
 pub returns-in-Database-clause-level : goal.returns-in-Database-clause-level
@@ -42,17 +42,21 @@ returns-in-Database-clause-level g c =
     let old = g.O.Write.contents c.args.output.now in
     let new = g.O.Write.contents c.write_level.new.writer in
     let level : OnOk c.map_err.result
-    (WritesLevel (database_file c.args.bytes.now) c.args.pips old new) =
+    (WritesLevel Database c.args.bytes.now c.args.pips old new) =
     search rules in
     subst (λ kind. OnOk c.map_err.result
-    (WritesLevel (file_of kind c.args.bytes.now) c.args.pips old new)) (sym c.in-Database.is) level
+    (WritesLevel kind c.args.bytes.now c.args.pips old new)) (sym c.in-Database.is) level
+
+pub kept-board-requires-clause-right : goal.kept-board-requires-clause-right
+kept-board-requires-clause-right g c =
+    subst (λ kind. IsRightAs kind c.args.bytes.now) c.in-Board.is c.requires.accepted.right
 
 -- the text is the line
 told : (g : Over) (c : After-put_board_level g) → IsLevelLineIn (board_book c.args.bytes.now)
     c.args.pips c.put_board_level.new.text.bytes
 told g c =
     let some : IfSome c.board_level.result (HasBoardLevel c.args.bytes.now c.args.pips) =
-    rw c.accepted-board.ensures at c.board_level.ensures.level in
+    rw c.kept-board.ensures at c.board_level.ensures.level in
     let level : HasBoardLevel c.args.bytes.now c.args.pips c.unwrap-level-in-Board.result =
     search rules in
     c.put_board_level.ensures.text c.args.bytes.now c.args.pips level
@@ -63,10 +67,10 @@ returns-in-Board-clause-part g c =
     let old = g.O.Write.contents c.args.output.now in
     let new = g.O.Write.contents c.write_line.new.writer in
     let part : OnErr c.map_err-in-Board.result
-    (WritesLevelPart (board_file c.args.bytes.now) c.args.pips old new) =
+    (WritesLevelPart Board c.args.bytes.now c.args.pips old new) =
     search rules in
     subst (λ kind. OnErr c.map_err-in-Board.result
-    (WritesLevelPart (file_of kind c.args.bytes.now) c.args.pips old new)) (sym c.in-Board.is) part
+    (WritesLevelPart kind c.args.bytes.now c.args.pips old new)) (sym c.in-Board.is) part
 
 pub returns-in-Board-clause-level : goal.returns-in-Board-clause-level
 returns-in-Board-clause-level g c =
@@ -74,7 +78,7 @@ returns-in-Board-clause-level g c =
     let old = g.O.Write.contents c.args.output.now in
     let new = g.O.Write.contents c.write_line.new.writer in
     let level : OnOk c.map_err-in-Board.result
-    (WritesLevel (board_file c.args.bytes.now) c.args.pips old new) =
+    (WritesLevel Board c.args.bytes.now c.args.pips old new) =
     search rules in
     subst (λ kind. OnOk c.map_err-in-Board.result
-    (WritesLevel (file_of kind c.args.bytes.now) c.args.pips old new)) (sym c.in-Board.is) level
+    (WritesLevel kind c.args.bytes.now c.args.pips old new)) (sym c.in-Board.is) level

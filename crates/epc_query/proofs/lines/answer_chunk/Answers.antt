@@ -33,17 +33,17 @@ returns-in_err-write_answer-clause-answered g c = λ file t done start is.
     let held = c.loop-length.held in
     let empty = eqb-true _ _ (sym c.if-is_empty.ensures) in
     let none : length held ≡ 0 = omega (arith, empty, ap length c.rest.ensures) in
-    let kept = bytes_kept (g.A.Answers.kind file) read start _ held (take 130 piece) piece before.0
+    let kept = bytes_kept (g.A.Answers.book file) read start _ held (take 130 piece) piece before.0
     (rest_more c.law_input_lines.ensures.other read piece first.before) (alone held piece none) in
     let stopped = rw left at (rw c.whole_line.ensures at
     ((c.in_err-write_answer.ensures {u = tt}).answered file
     (c.loop-length.invariant.stays.told ∙ t))) in
     let cut = c.law_input_lines.ensures.more ((read ++ piece) ++ 10 ∷ [])
     (drop (i + place + 1) chunk) in
-    rw same (stopped_before (g.A.Answers.kind file) ((read ++ piece) ++ 10 ∷ [])
+    rw same (stopped_before (g.A.Answers.book file) ((read ++ piece) ++ 10 ∷ [])
     (drop (i + place + 1) chunk) (done ++ chunk) cut.0 start _ fault
     (piece_rest done chunk i place first) cut.1
-    (line_stopped c.law_lines.ensures.short (g.A.Answers.kind file) (read ++ piece) start _ _
+    (line_stopped c.law_lines.ensures.short (g.A.Answers.book file) (read ++ piece) start _ _
     (take 130 piece) fault kept.0 stopped (c.law_input_lines.ensures.feed (read ++ piece)).0))
 
 pub returns-in_err-write_answer-2-clause-answered :
@@ -59,7 +59,7 @@ returns-in_err-write_answer-2-clause-answered g c = λ file t done start is.
     let first = rw left at c.in-Some.ensures in
     let piece = take place (drop i chunk) in
     let read = done ++ take i chunk in
-    let kept = bytes_kept (g.A.Answers.kind file) read start _ c.loop-length.held
+    let kept = bytes_kept (g.A.Answers.book file) read start _ c.loop-length.held
     c.extend.new.self piece before.0
     (rest_more c.law_input_lines.ensures.other read piece first.before)
     (rw left at c.extend.ensures) in
@@ -68,10 +68,10 @@ returns-in_err-write_answer-2-clause-answered g c = λ file t done start is.
     (c.loop-length.invariant.stays.told ∙ t)) in
     let cut = c.law_input_lines.ensures.more ((read ++ piece) ++ 10 ∷ [])
     (drop (i + place + 1) chunk) in
-    rw same (stopped_before (g.A.Answers.kind file) ((read ++ piece) ++ 10 ∷ [])
+    rw same (stopped_before (g.A.Answers.book file) ((read ++ piece) ++ 10 ∷ [])
     (drop (i + place + 1) chunk) (done ++ chunk) cut.0 start _ fault
     (piece_rest done chunk i place first) cut.1
-    (line_stopped c.law_lines.ensures.short (g.A.Answers.kind file) (read ++ piece) start _ _
+    (line_stopped c.law_lines.ensures.short (g.A.Answers.book file) (read ++ piece) start _ _
     c.extend.new.self fault kept.0 stopped (c.law_input_lines.ensures.feed (read ++ piece)).0))
 
 pub loop-length-preserved : goal.loop-length-preserved
@@ -91,7 +91,7 @@ loop-length-preserved g c =
             taken = λ file t done start is.
                 let before = so_far.taken file t done start is in
                 let read = done ++ take i chunk in
-                let kept = bytes_kept (g.A.Answers.kind file) read start _ held (take 130 piece)
+                let kept = bytes_kept (g.A.Answers.book file) read start _ held (take 130 piece)
                 piece before.0
                 (rest_more c.law_input_lines.ensures.other read piece first.before)
                 (alone held piece (omega (
@@ -102,7 +102,7 @@ loop-length-preserved g c =
                 let has = rw left at (rw w.whole_line.ensures at
                 ((w.in_ok-write_answer.ensures {u = tt}).answered file
                 (so_far.stays.told ∙ t))) in
-                let now = line_ended c.law_lines.ensures.short (g.A.Answers.kind file)
+                let now = line_ended c.law_lines.ensures.short (g.A.Answers.book file)
                 (read ++ piece) start _ _ (take 130 piece) _ kept.0 has
                 (c.law_input_lines.ensures.feed (read ++ piece)) (sym (none_of_length held (omega (
                   arith,
@@ -129,14 +129,14 @@ loop-length-preserved g c =
             taken = λ file t done start is.
                 let before = so_far.taken file t done start is in
                 let read = done ++ take i chunk in
-                let kept = bytes_kept (g.A.Answers.kind file) read start _ held w.extend.new.self
+                let kept = bytes_kept (g.A.Answers.book file) read start _ held w.extend.new.self
                 piece before.0
                 (rest_more c.law_input_lines.ensures.other read piece first.before)
                 (rw left at w.extend.ensures) in
                 let has = rw w.line.ensures at
                 ((w.in_ok-write_answer-2.ensures {u = tt}).answered file
                 (so_far.stays.told ∙ t)) in
-                let now = line_ended c.law_lines.ensures.short (g.A.Answers.kind file)
+                let now = line_ended c.law_lines.ensures.short (g.A.Answers.book file)
                 (read ++ piece) start _ _ w.extend.new.self _ kept.0 has
                 (c.law_input_lines.ensures.feed (read ++ piece)) w.clear.ensures in
                 let next = piece_joined done chunk i place first in (
@@ -159,9 +159,9 @@ loop-length-preserved g c =
 taken : (g : Over) (c : After-extend-2 g) (file : List ℕ) →
     (g.A.Answers.seen c.args.answers.now).told ≡ Some file →
     (done : List ℕ) (start : Option (List ℕ)) →
-    IsAnswered (g.A.Answers.kind file) done start (g.W.Write.contents c.args.writer.now)
+    IsAnswered (g.A.Answers.book file) done start (g.W.Write.contents c.args.writer.now)
     c.args.held.now →
-    IsAnswered (g.A.Answers.kind file) (done ++ c.args.chunk.now) start
+    IsAnswered (g.A.Answers.book file) (done ++ c.args.chunk.now) start
     (g.W.Write.contents c.loop-length.writer)
     c.extend-2.new.self
     × (length (whole_lines (done ++ c.args.chunk.now))
@@ -173,7 +173,7 @@ taken g c file t done start is =
     let left = take_rest chunk i in
     let rest = rest_more c.law_input_lines.ensures.other (done ++ take i chunk) (drop i chunk)
     (rw left at c.in_default.ensures) in
-    let kept = bytes_kept (g.A.Answers.kind file) (done ++ take i chunk) start _ c.loop-length.held
+    let kept = bytes_kept (g.A.Answers.book file) (done ++ take i chunk) start _ c.loop-length.held
     c.extend-2.new.self
     (drop i chunk) before.0 rest (rw left at c.extend-2.ensures) in
     let all = chunk_parts done chunk i in (
@@ -189,7 +189,7 @@ returns-in_err-flush-clause-answered g c = λ file t done start is.
     let told = (c.in_err-flush.ensures {u = tt}).fault in
     let fault : c.in_err-flush.field-0.0 ≡ Write = cc in
     rw (same, fault)
-    (failed_flush (g.A.Answers.kind file) (whole_lines (done ++ c.args.chunk.now)) start _ _
+    (failed_flush (g.A.Answers.book file) (whole_lines (done ++ c.args.chunk.now)) start _ _
     has.0.replies
     c.flush.ensures.kept)
 
@@ -197,7 +197,7 @@ pub returns-clause-answered : goal.returns-clause-answered
 returns-clause-answered g c = λ file t done start is.
     let at = (goal.at.returns-clause-answered g c).After-extend-2 in
     let has = taken g at file t done start is in (
-      flushed_answers (g.A.Answers.kind file) (done ++ c.args.chunk.now) start _ _ _ has.0
+      flushed_answers (g.A.Answers.book file) (done ++ c.args.chunk.now) start _ _ _ has.0
           c.flush.ensures.kept,
       has.1,
     )

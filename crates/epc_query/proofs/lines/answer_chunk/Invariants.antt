@@ -11,9 +11,9 @@ invariant-loop-length g l = record {
   within : l.start ≤ length l.chunk;
   taken : WhereTold (g.A.Answers.seen l.initial.answers).told
       (λ file. (done : List ℕ) (start : Option (List ℕ))
-      → IsAnswered (g.A.Answers.kind file) done start (g.W.Write.contents l.initial.writer)
+      → IsAnswered (g.A.Answers.book file) done start (g.W.Write.contents l.initial.writer)
       l.initial.held
-      → IsAnswered (g.A.Answers.kind file) (done ++ take l.start l.chunk) start
+      → IsAnswered (g.A.Answers.book file) (done ++ take l.start l.chunk) start
       (g.W.Write.contents l.writer) l.held
       × (length (whole_lines (done ++ take l.start l.chunk)) ≡ length
       (whole_lines done) + l.count));

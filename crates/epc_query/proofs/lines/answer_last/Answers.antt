@@ -12,7 +12,7 @@ returns-in_err-write_answer-clause-answered g c = λ file t done start is.
     let none = eqb-false _ _ (sym c.if-is_empty.ensures) in
     let some : 0 < length c.args.held.now = omega (arith, ap length c.rest-line.ensures) in
     rw same
-    (last_stopped c.law_lines.ensures.short (g.A.Answers.kind file) done start _ _ c.args.held.now
+    (last_stopped c.law_lines.ensures.short (g.A.Answers.book file) done start _ _ c.args.held.now
     fault is some
     stopped)
 
@@ -22,5 +22,5 @@ returns-clause-answered g c = λ file t done start is.
     ((c.in_ok-write_answer.ensures {u = tt}).answered file t) in
     let none = eqb-false _ _ (sym c.if-is_empty.ensures) in
     let some : 0 < length c.args.held.now = omega (arith, ap length c.rest-line.ensures) in
-    last_ended c.law_lines.ensures.short (g.A.Answers.kind file) done start _ _ c.args.held.now is
+    last_ended c.law_lines.ensures.short (g.A.Answers.book file) done start _ _ c.args.held.now is
     some has

@@ -10,10 +10,10 @@ returns-in_err-flush-clause-answered g c = λ file t done start is.
     let same : c.from_residual-in_err-flush.result ≡ Err c.in_err-flush.field-0.0 = search rules in
     let told = (c.in_err-flush.ensures {u = tt}).fault in
     let fault : c.in_err-flush.field-0.0 ≡ Write = cc in
-    rw (same, fault) (failed_flush (g.A.Answers.kind file) (lines_of done) start _ _ has.0
+    rw (same, fault) (failed_flush (g.A.Answers.book file) (lines_of done) start _ _ has.0
     c.flush.ensures.kept)
 
 pub returns-clause-answered : goal.returns-clause-answered
 returns-clause-answered g c = λ file t done start is.
     let has = (c.in_ok-count.ensures {u = tt}).answered file t done start is in
-    (flushed (g.A.Answers.kind file) (lines_of done) start _ _ has.0 c.flush.ensures.kept, has.1)
+    (flushed (g.A.Answers.book file) (lines_of done) start _ _ has.0 c.flush.ensures.kept, has.1)

@@ -22,7 +22,7 @@ pub returns-in_default-clause-stopped : goal.returns-in_default-clause-stopped
 returns-in_default-clause-stopped g c = λ file t input u.
     let so_far = c.loop-turn.invariant.taken file t input
     (begun g.R.Read.remaining c.new-reads.ensures.reader u) in
-    moved (λ left. HasAnswered (g.A.Answers.kind file) input left
+    moved (λ left. HasAnswered (g.A.Answers.book file) input left
     (g.W.Write.contents c.args.writer.now) (g.W.Write.contents c.loop-turn.writer))
     (g.R.Read.remaining c.next.new.self.reader.now) (
       so_far.0,
@@ -42,7 +42,7 @@ returns-in_err-count-clause-stopped g c = λ file t input u.
     let end = told.1 c.if-taken-eq0.true (omega (arith, c.next.auto.buf)) in
     let none = rw c.if-taken-eq0.true at told.0 in
     let all : input ≡ so_far.0 = read_all input _ _ so_far.0 so_far.1 none end in
-    rw same (run_stopped (g.A.Answers.kind file) input _ _ _ fault (rw all stopped))
+    rw same (run_stopped (g.A.Answers.book file) input _ _ _ fault (rw all stopped))
 
 pub returns-then-taken-eq0-clause-done : goal.returns-then-taken-eq0-clause-done
 returns-then-taken-eq0-clause-done g c = λ file t input u.
@@ -73,8 +73,8 @@ returns-in_err-count-2-clause-stopped g c = λ file t input u.
     let front = read_front input _ _ consumed in
     let cut = c.law_input_lines.ensures.more
     (so_far.0 ++ take c.in-Ok.taken c.next.new.buf) front.0 in
-    rw same (run_stopped (g.A.Answers.kind file) input _ _ _ fault
-    (stopped_in (g.A.Answers.kind file)
+    rw same (run_stopped (g.A.Answers.book file) input _ _ _ fault
+    (stopped_in (g.A.Answers.book file)
     (so_far.0 ++ take c.in-Ok.taken c.next.new.buf) front.0 input cut.0 _ _ fault front.1 cut.1
     stopped))
 
@@ -118,7 +118,7 @@ pub returns-clause-stopped : goal.returns-clause-stopped
 returns-clause-stopped g c = λ file t input u.
     let so_far = c.loop-turn.invariant.taken file t input
     (begun g.R.Read.remaining c.new-reads.ensures.reader u) in
-    moved (λ left. HasAnswered (g.A.Answers.kind file) input left
+    moved (λ left. HasAnswered (g.A.Answers.book file) input left
     (g.W.Write.contents c.args.writer.now) (g.W.Write.contents c.loop-turn.writer))
     (g.R.Read.remaining c.loop-turn.reads.reader.now) (so_far.0, so_far.1, so_far.2.replies)
     (search rules)

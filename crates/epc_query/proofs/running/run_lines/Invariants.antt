@@ -12,7 +12,7 @@ invariant-loop-turn g l = record {
   taken : WhereTold (g.A.Answers.seen l.initial.answers).told
       (λ file. WhereTold (g.R.Read.remaining l.initial.reads.reader.now) (λ input. (done : List ℕ)
       × Consumes (Some input) (g.R.Read.remaining l.reads.reader.now) done
-      × IsAnswered (g.A.Answers.kind file) done (g.W.Write.contents l.initial.writer)
+      × IsAnswered (g.A.Answers.book file) done (g.W.Write.contents l.initial.writer)
       (g.W.Write.contents l.writer) l.held
       × (length (whole_lines done) ≡ l.count)));
   read : WhereTold (g.R.Read.remaining l.initial.reads.reader.now) (λ input. (done : List ℕ)

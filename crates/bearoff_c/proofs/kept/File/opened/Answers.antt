@@ -1,8 +1,6 @@
-use Rattle.std.proofs.Common.{◌≡◌, ◌≤◌, IsTrue, sym, ap, subst, ◌∙◌, rules}
-use Rattle.std.proofs.Math.Bridge.{le_prop}
+use Rattle.std.proofs.Common.{◌≡◌, IsTrue, sym, ap, ◌∙◌, rules}
 use Rattle.std.proofs.Math.Nat.{ℕ_set}
 use mathlib.Core.Logic.{∥∥₁_elim, ∥∥₁_map}
-use Rattle.std.proofs.lemmas.Bool.{false≢true}
 use Rattle.race_model.specs.Files.{bound_of, book_of}
 use Rattle.race_model.specs.BoardFiles.{board_book}
 use Rattle.bearoff_c.specs.FileBooks.{version_in}
@@ -54,35 +52,23 @@ pub returns-then-self-ne-BOARD_VERSION-clause-version :
 returns-then-self-ne-BOARD_VERSION-clause-version c =
     kept_version c.args.self.now c.if-not-self.false
 
-pub accepted-requires-clause-right : goal.accepted-requires-clause-right
-accepted-requires-clause-right c =
+pub kept-requires-2-clause-right : goal.kept-requires-2-clause-right
+kept-requires-2-clause-right c =
     let is : c.args.self.now.version ≡ 3 = search rules in
     right_board_known c.args.self.now.bytes.now
     (∥∥₁_map c.args.self.now.opened (λ known. (known c.if-not-self.false).board is))
 
-pub accepted-requires-clause-bound : goal.accepted-requires-clause-bound
-accepted-requires-clause-bound c =
-    (c.in-Some.ensures {u = tt}).bound
-    ∙ kept_bound c.args.self.now c.if-not-self.false
+pub kept-requires-2-clause-bound : goal.kept-requires-2-clause-bound
+kept-requires-2-clause-bound c = kept_bound c.args.self.now c.if-not-self.false
 
-pub returns-in-Some-clause-book : goal.returns-in-Some-clause-book
-returns-in-Some-clause-book c =
+pub returns-clause-book : goal.returns-clause-book
+returns-clause-book c =
     let is : c.args.self.now.version ≡ 3 = search rules in
-    ap board_book c.accepted.ensures
+    ap board_book c.kept-2.ensures
     ∙ board_file_book c.args.self.now.bytes.now
     (sym (kept_version c.args.self.now c.if-not-self.false) ∙ is)
 
-pub returns-in-Some-clause-bound : goal.returns-in-Some-clause-bound
-returns-in-Some-clause-bound c =
-    ap bound_of c.accepted.ensures
+pub returns-clause-bound : goal.returns-clause-bound
+returns-clause-bound c =
+    ap bound_of c.kept-2.ensures
     ∙ sym (kept_bound c.args.self.now c.if-not-self.false)
-
-pub returns-in-None-clause-refusal : goal.returns-in-None-clause-refusal
-returns-in-None-clause-refusal c =
-    let file = c.args.self.now in
-    let is : file.version ≡ 3 = search rules in
-    let low : file.bound ≤ 90 =
-    ∥∥₁_elim file.opened le_prop
-    (λ known. subst (λ b. b ≤ 90) (sym (kept_bound c.args.self.now c.if-not-self.false))
-    ((known c.if-not-self.false).board is).file.bounded) in
-    absurd (false≢true ((c.in-None.ensures {u = tt}).some.1 low))

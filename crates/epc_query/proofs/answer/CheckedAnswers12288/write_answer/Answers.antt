@@ -1,5 +1,5 @@
 use Rattle.std.proofs.Common.{arith}
-use Rattle.epc_query.specs.AnyFiles.{database_file}
+use Rattle.race_model.specs.Files.{book_of}
 use Rattle.epc_query.proofs.Runs.{one_reply, one_part}
 use Rattle.epc_query.proofs.answer.CheckedAnswers12288.write_answer.Goals as goal
 
@@ -8,8 +8,10 @@ pub returns-in-Ok-write_reply_by-clause-answered :
 returns-in-Ok-write_reply_by-clause-answered g c = λ file t.
     let told = (c.in-Ok.ensures {u = tt}).reply file t in
     let wrote = (c.in-Ok-write_reply_by.ensures {u = tt}).all in
-    one_reply (database_file file) c.args.line.now _ _ _
-    (c.law_reply_text.ensures file c.args.line.now c.in-Ok.reply wrote.0 told wrote.1) wrote.2
+    let line = c.args.line.now in
+    one_reply (book_of file) line _ _ _
+    ((c.law_replies.ensures.book file line _).1
+    (c.law_reply_text.ensures file line c.in-Ok.reply wrote.0 told wrote.1)) wrote.2
 
 pub returns-in-Ok-clause-answered : goal.returns-in-Ok-clause-answered
 returns-in-Ok-clause-answered g c = λ file t.
@@ -18,6 +20,7 @@ returns-in-Ok-clause-answered g c = λ file t.
     let line = c.args.line.now in (
       1,
       omega arith,
-      one_part (database_file file) line _ _ _
-          (c.law_reply_text.ensures file line c.in-Ok.reply wrote.0 told wrote.1) wrote.2,
+      one_part (book_of file) line _ _ _
+          ((c.law_replies.ensures.book file line _).1
+          (c.law_reply_text.ensures file line c.in-Ok.reply wrote.0 told wrote.1)) wrote.2,
     )

@@ -8,6 +8,6 @@ returns c = record {
   right = c.bound.ensures.right.book;
   long = short c.args.self.now c.bound.ensures.right.file;
   rolls = refl;
-  replies = λ line text is. is;
+  replies = λ line text. (c.law_replies.ensures.book c.args.self.now line text).1;
   range = omega (arith, c.bound.ensures.range);
 }
