@@ -754,7 +754,7 @@ class TestTerminal:
         assert came == (0, f"{TYPED_HELP}{told}> ".encode(), None, b"")
 
     def test_a_file_that_is_typed(self, terminal):
-        came = terminal("check /dev/stdin", b"\4")
+        came = terminal("check /proc/self/fd/0", b"\4")
         assert came == (3, b"", None, b"bearoff: refused header too-short\n")
 
     def test_lines_of_a_file(self, terminal):
