@@ -109,7 +109,7 @@ function score(state) {
         const near = state.estimatesAgain.filter((estimate) => !isFar(estimate)).length;
         return [
             h("p", { class: "says score" },
-                `${count} of ${state.questions.length} were estimated.${mean}`),
+                `${count} of ${state.questions.length} ${count === 1 ? "was" : "were"} estimated.${mean}`),
             state.drill.ask === "pips"
                 ? askedAgain("wrong", near, "right")
                 : askedAgain("a pip or more off", near, "nearer"),
@@ -120,13 +120,13 @@ function score(state) {
     const mistakes = mistakesOf(state);
     return [
         h("p", { class: "says score" },
-            `${count} of ${state.questions.length} were played. They lost ${decimalOf(rolls)} rolls, `
-            + `or ${decimalOf(pips)} pips of EPC.${isShort(rolls) ? ` Exactly: ${rolls} of a roll.` : ""}`),
+            `${count} of ${state.questions.length} ${count === 1 ? "was played. It" : "were played. They"} lost `
+            + `${decimalOf(rolls)} rolls, or ${decimalOf(pips)} pips of EPC.`
+            + (isShort(rolls) ? ` Exactly: ${rolls} of a roll.` : "")),
         askedAgain("missed", state.again.filter(({ play }) => !isMiss(play)).length, "right"),
         state.drill.due && h("p", { class: "says" }, comesBack(state)),
         mistakes && h("p", {},
-            h("a", { href: link({ text: mistakes }), "data-key": "mistakes" },
-                "The mistakes as a lesson")),
+            h("a", { href: link({ text: mistakes }), "data-key": "mistakes" }, "The mistakes as a lesson")),
     ];
 }
 

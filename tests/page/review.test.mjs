@@ -142,7 +142,7 @@ test("a drill of pip counts, some wrong", async () => {
     used = await Used.open(FEWER);
     await used.run("", [["where none was wrong nothing comes back",
         [...count(pipsOf(questions[0].points)), `go ${FEWER}&question=21`],
-        { "in coach": "1 of 20 were estimated. The mean error is 0.000 pips.", "not in coach": "nce more" }]]);
+        { "in coach": "1 of 20 was estimated. The mean error is 0.000 pips.", "not in coach": "nce more" }]]);
 
     used = await Used.open("#drill=ace&seed=3&ask=effective");
     await used.run("fewer questions than were asked for", [["it is said", "", { "length questions": 15,
@@ -274,7 +274,7 @@ test("a drill on paper", async () => {
     await used.run("a drill on paper", [
         ["what was answered, and nothing else", [losing(roll)], { "not in printed": "were played", [answers]: [
             `${high}/1 ${low}/2 loses 0.056 of a roll; best is ${high}/off ${low}/0.`, ...Array(19).fill("\u2013")] }],
-        ["the score", Array(21).fill("next question"), { "in printed": "1 of 20 were played." }],
+        ["the score", Array(21).fill("next question"), { "in printed": "1 of 20 was played. It lost" }],
     ]);
     equal("all of it", items().length, 20);
     const ace = await Used.open("#drill=ace&seed=7&ask=effective");
