@@ -88,9 +88,9 @@ const look = (words) => words.map((word) => {
 
 // What both have of a page.
 class AnyPage {
-    // Waits until an expression is true, and says for how many milliseconds.
-    async until(expression, most = 30000) {
-        const start = performance.now();
+    // Waits until an expression is true, with more patience than any machine wants, and says for how many milliseconds.
+    async until(expression) {
+        const [start, most] = [performance.now(), Number(process.env.PATIENCE || 120000)];
         while (!(await this.value(`(() => { try { return Boolean(${expression}); } catch { return false; } })()`))) {
             if (performance.now() - start > most) throw new Error(`never true: ${expression}`);
             await wait(10);
@@ -99,7 +99,7 @@ class AnyPage {
     }
 
     // Waits for an element, or for one that has no dots of what isn't known yet.
-    there(selector, most) { return this.until(`document.querySelector(${JSON.stringify(selector)})`, most); }
+    there(selector) { return this.until(`document.querySelector(${JSON.stringify(selector)})`); }
 
     known(selector) {
         return this.until(`((all) => all.length > 0 && all.every(({ textContent }) => !textContent.includes("\u2026")))(

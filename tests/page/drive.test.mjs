@@ -99,10 +99,7 @@ async function compareWatched(page, name, least) {
         const right = [String(pipsOf(position))];
         if (figures.length === 4 && figures[1] !== "\u2026") {
             const [, mean, , , effective] = ask(`mean ${position}`).split(" ");
-            const [above, below] = mean.split("/").map(BigInt);
-            const thousandths = (2000n * above + below) / (2n * below);
-            right.push((Number(thousandths) / 1000).toFixed(3), effective,
-                (Number(effective) - pipsOf(position)).toFixed(3));
+            right.push(rounded(over(mean)), effective, (Number(effective) - pipsOf(position)).toFixed(3));
             told += 1;
         }
         figures.forEach((figure, place) => {
@@ -125,18 +122,18 @@ const SHOWN = `({
 
 // The numbers on the page are those of the program for the position.
 async function compare(page, name, position) {
-    await page.until(`document.getElementById("counts").value === "${position}"`,
-        5000).catch(() => wrong(`${name}: the board isn't ${position}`));
-    const [, mean, , epc, rounded] = ask(`mean ${position}`).split(" ");
-    await page.until(`document.querySelectorAll(".figure dd")[2].textContent.startsWith("${rounded}")`, 5000)
-        .catch(() => wrong(`${name}: no effective pip count of ${rounded}`));
+    await page.until(`document.getElementById("counts").value === "${position}"`)
+        .catch(() => wrong(`${name}: the board isn't ${position}`));
+    const [, mean, , epc, effective] = ask(`mean ${position}`).split(" ");
+    await page.until(`document.querySelectorAll(".figure dd")[2].textContent.startsWith("${effective}")`)
+        .catch(() => wrong(`${name}: no effective pip count of ${effective}`));
     const shown = await page.value(SHOWN);
     const pips = pipsOf(position);
     equal(`${name}, the points`, shown.values, position);
-    equal(`${name}, pips and effective`, [shown.figures[0], shown.figures[2]], [String(pips), rounded]);
+    equal(`${name}, pips and effective`, [shown.figures[0], shown.figures[2]], [String(pips), effective]);
     equal(`${name}, exact`, shown.exact, [mean, epc]);
-    equal(`${name}, wastage`, shown.figures[3], (Number(rounded) - pips).toFixed(3));
-    equal(`${name}, said`, shown.said.includes(`effective pip count ${rounded}`), true);
+    equal(`${name}, wastage`, shown.figures[3], (Number(effective) - pips).toFixed(3));
+    equal(`${name}, said`, shown.said.includes(`effective pip count ${effective}`), true);
 }
 
 // Every roll's best play is the recorded one with the loss of the next best, and the chosen roll's
@@ -149,10 +146,8 @@ async function compareRolls(page, position) {
     for (const [roll, text, next] of rolls) {
         equal(`the best play of ${roll}`, effectOf(text), effectOf(ask(`play ${position} ${roll}`).split(" to ")[0].slice(5)));
         equal(`${text} as players write it`, isJoined(text), true);
-        const losses = lossesOf(position, roll).map(over).map(([above, below]) => (2000n * above + below) / (2n * below))
-            .sort((one, other) => (one < other ? -1 : one > other ? 1 : 0));
-        equal(`the next best of ${roll}`, next, losses.length === 1 ? "only play"
-            : `then \u2212${(Number(losses[1]) / 1000).toFixed(3)}`);
+        const losses = lossesOf(position, roll).map(over).map(rounded).sort((one, other) => one - other);
+        equal(`the next best of ${roll}`, next, losses.length === 1 ? "only play" : `then \u2212${losses[1]}`);
     }
     await page.click(keyed("roll 31"));
     await page.there(".plays");
@@ -395,7 +390,7 @@ async function driveWider(browser) {
     const [near, far] = ["2,2,2,2,2,1", "0,0,0,3,5,7"];
     const shows = (page, name, open, hidden = {}) => sees(page, name, { "#open": open, "count #trouble": 1,
         "hidden #bar": true, "hidden #trouble": true, "hidden #wider": true, ...hidden });
-    const isOpen = (page, bound) => page.until(`document.getElementById("open").textContent === "${bound} pips"`, 60000);
+    const isOpen = (page, bound) => page.until(`document.getElementById("open").textContent === "${bound} pips"`);
     const open = async (hash, how, what = `${READY} && ${KNOWN} && document.querySelector(".rolls .next")`) => {
         const page = await browser.open(address + hash, { before: machine(...how) + WATCH });
         await page.until(what);
@@ -409,7 +404,7 @@ async function driveWider(browser) {
     // a fast machine, whose second build takes its time so that it is met
     const fast = await open("#at=2,2,2,2,2,2&roll=31", [500, { late: 1200 }]);
     await shows(fast, "fast: the first number comes of 44 pips", "44 pips");
-    await fast.until("workers.length === 2", 5000);
+    await fast.until("workers.length === 2");
     equal("fast: what is asked", await fast.value(WORKERS), [["start 44", false], ["start 90", false]]);
     await give(fast, "fast: while 90 pips are built", near);
     await shows(fast, "fast: nothing is said of it", "44 pips");
@@ -452,7 +447,7 @@ async function driveWider(browser) {
     for (const [what, prefix] of [["no memory", NO_MEMORY], ["a worker that dies", "setTimeout(() => { throw new Error('gone'); }, "
         + "0); self.onmessage = () => {}; Object.defineProperty(self, 'onmessage', { set() {} });"]]) {
         const page = await open("#at=2,2,2,2,2,2", [500, { bad: 2, prefix }]);
-        await page.until("workers.length === 2 && workers[1].isEnded", 5000)
+        await page.until("workers.length === 2 && workers[1].isEnded")
             .catch(() => wrong(`${what}: the second worker isn't let go`));
         await shows(page, `${what}: in silence`, "44 pips");
         equal(`${what}: its workers`, await page.value(WORKERS), [["start 44", false], ["start 90", true]]);
@@ -520,10 +515,10 @@ async function driveGuessed(browser) {
 }
 
 // Drops a file on the page, or chooses it at its foot.
-const put = (page, bytes, how = "drop") => page.value(`(() => {
+const put = (page, bytes, how = "drop", name = "own.db") => page.value(`(() => {
     const bytes = Uint8Array.from(atob(${JSON.stringify(Buffer.from(bytes).toString("base64"))}), (letter) => letter.charCodeAt(0));
     const transfer = new DataTransfer();
-    transfer.items.add(new File([bytes], "own.db"));
+    transfer.items.add(new File([bytes], "${name}"));
     if (${JSON.stringify(how)} === "drop") {
         document.body.dispatchEvent(new DragEvent("drop", { dataTransfer: transfer, bubbles: true, cancelable: true }));
     } else {
@@ -564,14 +559,17 @@ async function driveMoments(browser) {
     const page = await browser.open(`${address}#p=2,2,2,2,2,2`, { before: SLOW + WATCH });
     await page.until(`${READY} && ${KNOWN}`);
     await put(page, race);
-    await page.value(`new Promise((keep) => setTimeout(keep, 100)).then(() => {
-        for (const key of ["Remove 6", "", "Remove 5", "Remove 5"]) {
-            document.querySelector(key ? '[data-key="' + key + '"]' : "#keep").click();
-        }
-    })`);
-    equal("a board that changes while a file is checked",
-        await page.value(`({ board: ${SHOWN}.values, bar: document.getElementById("bar").hidden })`),
-        { board: "2,2,2,2,0,1", bar: false });
+    // in the turn in which the bar is seen, since the check may be over before the next one
+    equal("a board that changes while a file is checked", await page.value(`new Promise((keep) => {
+        const look = () => {
+            if (document.getElementById("bar").hidden) return setTimeout(look, 1);
+            for (const key of ["Remove 6", "", "Remove 5", "Remove 5"]) {
+                document.querySelector(key ? '[data-key="' + key + '"]' : "#keep").click();
+            }
+            return keep({ board: ${SHOWN}.values, bar: document.getElementById("bar").hidden });
+        };
+        look();
+    })`), { board: "2,2,2,2,0,1", bar: false });
     await page.until('!document.getElementById("trouble").hidden');
     await compare(page, "after the refusal", "2,2,2,2,0,1");
     await page.known(".kept td[data-head]");
@@ -587,7 +585,7 @@ async function driveMoments(browser) {
             document.querySelector(key ? '[data-key="' + key + '"]' : "#keep").click();
         }
     })()`);
-    await wider.until('document.getElementById("open").textContent === "90 pips"', 60000);
+    await wider.until('document.getElementById("open").textContent === "90 pips"');
     await compare(wider, "after 90 pips were built", "2,0,0,3,5,0");
     await wider.known(".kept td[data-head]");
     await sees(wider, "one is kept", { "count .kept td[data-head]": 4 });
@@ -613,7 +611,7 @@ async function driveLesson(browser) {
         "all .kept [data-head=EPC]": counts,
         "all .kept [data-head=Wastage]": counts.map((count, place) => (Number(count) - pipsOf(order[place])).toFixed(3)) });
     equal("the title of the page", await page.value("document.title"), "<b>A lesson</b> \u2013 Bearing off");
-    await page.until('location.hash.includes("at=")', 3000);
+    await page.until('location.hash.includes("at=")');
     const again = await browser.open(address + await page.value("location.hash"));
     await again.until(SORTED);
     equal("the address keeps all", await inputs(again), captions);
@@ -634,13 +632,13 @@ async function driveHistory(browser) {
     for (const [move, wanted] of [["back", "1,0,0,1,0,0 1 0"], ["back", "1,0,0,1,0,0 0 0"], ["back", "1,0,0,0,0,0 0 0"],
         ["forward", "1,0,0,1,0,0 0 0"], ["forward", "1,0,0,1,0,0 1 0"], ["forward", "1,0,0,1,0,0 1 1"]]) {
         await page[move]();
-        await page.until(`${state} === "${wanted}"`, 3000)
+        await page.until(`${state} === "${wanted}"`)
             .catch(async () => wrong(`${move}: ${await page.value(state)}, and not ${wanted}`));
     }
     await compare(page, "after Forward", "1,0,0,1,0,0");
     // as a link of an older page has it
     await page.value('location.hash = "#at=0,0,0,3,5,3&pips=58"');
-    await page.until('document.getElementById("open").textContent === "90 pips" && document.querySelector(".figures")', 60000);
+    await page.until('document.getElementById("open").textContent === "90 pips" && document.querySelector(".figures")');
     await page.until('document.querySelector(".figure dd").textContent.trim() === "55"');
 }
 
@@ -758,23 +756,12 @@ const point = (place) => (place === 0 ? '[data-key="off"]' : `[data-key="point $
 // How a play is made on the board: by clicks, by dragging, by taps, or by keys alone. Each is given
 // single moves; what is made is played by its button, or by Enter.
 const WAYS = {
-    mouse: async (page, moves) => {
-        for (const [from, to] of moves) {
-            await page.click(point(from));
-            await page.click(point(to));
-        }
-        await page.click('[data-key="made"]');
-    },
+    ...Object.fromEntries([["mouse", "click"], ["touch", "tap"]].map(([way, act]) => [way, async (page, moves) => {
+        for (const selector of [...moves.flat().map(point), keyed("made")]) await page[act](selector);
+    }])),
     drag: async (page, moves) => {
         for (const [from, to] of moves) await page.drag(point(from), point(to));
-        await page.click('[data-key="made"]');
-    },
-    touch: async (page, moves) => {
-        for (const [from, to] of moves) {
-            await page.tap(point(from));
-            await page.tap(point(to));
-        }
-        await page.tap('[data-key="made"]');
+        await page.click(keyed("made"));
     },
     keys: async (page, moves) => {
         const go = async (place) => {
@@ -928,7 +915,7 @@ async function driveSession(browser) {
         await act(page, keyed("today"), /^Begin ten new$/);
         let [asked, missed] = [0, 0];
         for (; asked < 30; asked += 1) {
-            await page.until(`${MAKING} || document.querySelector(".reviewed")`, 60000);
+            await page.until(`${MAKING} || document.querySelector(".reviewed")`);
             if ((await page.look(["count .reviewed"]))[0] > 0) break;
             const which = asked < 10 ? `Question ${asked + 1} of 10.` : `Once more, ${asked - 9} of ${missed}.`;
             await sees(page, `${way}: ${which}`, { "#coach .asks": RegExp(`^${which}`), "count #coach .verdict": 0,
@@ -1270,7 +1257,7 @@ async function driveClicks(browser) {
         await wait(offset);
         await page.press(place);
         const opened = async (what, is) => {
-            const isLost = await page.until(is, 10000).then(() => false, () => true);
+            const isLost = await page.until(is).then(() => false, () => true);
             if (isLost) lost.push(`${what} at ${offset} ms`);
             return !isLost;
         };
@@ -1310,12 +1297,8 @@ async function driveGames(browser) {
     for (const [text, name] of worse) {
         const page = await browser.open(address, { width: 360, height: 780, mobile: true });
         await page.until(HOME);
-        await page.value(`(() => {
-            const transfer = new DataTransfer();
-            transfer.items.add(new File([${JSON.stringify(text)}], "${name}"));
-            document.body.dispatchEvent(new DragEvent("drop", { dataTransfer: transfer, bubbles: true, cancelable: true }));
-        })()`);
-        await page.until('document.querySelector("#games .reviewed") || document.querySelector("#match-why p")', 60000);
+        await put(page, text, "drop", name);
+        await page.until('document.querySelector("#games .reviewed") || document.querySelector("#match-why p")');
         const fault = await page.value('document.querySelector("#match-why").textContent');
         if (fault) {
             fault.includes("no play of 53 leads from 1,0,0,0,3,2") || fault.includes("has no checker")
@@ -1323,22 +1306,18 @@ async function driveGames(browser) {
             continue;
         }
         count += 1;
-        const losses = ask("moves 1,0,0,0,3,2 53").split(" ").slice(1).map((word) => word.split(":"));
+        const losses = lossesOf("1,0,0,0,3,2", "53").map(over).filter(([above]) => above > 0n);
         const [told, asks] = await page.value(`[[...document.querySelectorAll("#games .lost dd:last-child")].at(-1)?.textContent,
             document.querySelectorAll('[data-key^="ask "]').length]`);
-        equal(`${name}: what it lost`, losses.some(([, loss]) => {
-            const [above, below] = loss.split("/").map(BigInt);
-            const rolls = (Number((2000n * above + below) / (2n * below)) / 1000).toFixed(3);
-            const pips = (Number((2000n * 49n * above + 6n * below) / (12n * below)) / 1000).toFixed(3);
-            return above > 0n && told === `${rolls} rolls, ${pips} pips`;
-        }), true);
+        equal(`${name}: what it lost`,
+            losses.some((loss) => told === `${rounded(loss)} rolls, ${inPips(loss)} pips`), true);
         equal(`${name}: one player missed`, asks, 1);
         await page.value(`document.querySelector('[data-key^="ask "]').click()`);
         await page.value('location.hash = "#home"');
         await page.until(`document.querySelector('[data-key="today"]')?.textContent.includes("1 again")`);
         await page.value(`document.querySelector('[data-key="today"]').scrollIntoView({ block: "center" })`);
         await page.tap('[data-key="today"]');
-        await page.until('document.querySelector("#board .source")', 60000);
+        await page.until('document.querySelector("#board .source")');
         equal(`${name}: the miss is asked`, (await page.value(SHOWN)).values, "1,0,0,0,3,2");
         equal("nothing went wrong", page.troubles(), []);
         await page.close();
