@@ -82,13 +82,6 @@ CHANGED = "bearoff: a source has changed since the program was proved here: *"
 COMPILED = ["unproved <--quiet> <program>"]
 
 
-def age(path, minutes):
-    """Makes a file, or a file's time, so old."""
-    Path(path).touch()
-    then = time.time() - 60 * minutes
-    os.utime(path, (then, then))
-
-
 class Copy:
     """A repository of a few crates in a folder with a space, and a kit that tells of itself."""
 
@@ -207,10 +200,7 @@ class TestWithoutAKit:
 
 class TestProve:
     def test_a_proof_that_fails(self, copy):
-        said = (
-            "*error: no proof of other*prove: other was not proved;"
-            " what the prover said is in *"
-        )
+        said = "*error: no proof of other*prove: other was not proved; what the prover said is in*"
         done = copy.prove(failing="other")
         expect(done, 1, "", said)
         log = Path(re.search(r"what the prover said is in (.*)", done.errors.decode())[1])
@@ -388,40 +378,48 @@ class TestAfterTheGate:
     """What `rt ci` left counts, where tools/prove --gate finds the sources as they were when that
     began, and what was made since."""
 
-    def gate(self, copy, is_newer=True):
+    def begin(self, copy):
         begun = copy.work / "begun"
         begun.write_bytes(succeed(copy.root / "tools/sources"))
-        age(begun, minutes=1)
+        return begun
+
+    def build(self, copy):
         for name in ("low", "other"):
             library = copy.root / f"crates/{name}/out/rlib/{name}.rlib"
             library.mkdir(parents=True, exist_ok=True)
-            age(library / "format", minutes=0 if is_newer else 2)
+            (library / "format").touch()
             assert not (library.parent / "stamp").exists()
         copy.program.parent.mkdir(exist_ok=True)
         copy.program.write_text('#!/bin/sh\necho proved "$@"\n')
         copy.program.chmod(0o755)
-        age(copy.program, minutes=0 if is_newer else 2)
-        return begun
 
     def mark(self, copy, begun):
         return copy.run("--gate", begun, by=copy.root / "tools/prove")
 
-    def test_what_it_built(self, copy):
-        expect(self.mark(copy, self.gate(copy)), 0, "", "")
+    @pytest.mark.parametrize("is_linked", [False, True])
+    def test_what_it_built(self, copy, is_linked):
+        """Or took of an earlier run, by another link."""
+        self.build(copy)
+        begun = self.begin(copy)
+        for path in [*copy.root.glob("crates/*/out/rlib/*/format"), copy.program]:
+            (copy.work / path.parent.name).hardlink_to(path) if is_linked else path.touch()
+        expect(self.mark(copy, begun), 0, "", "")
         expect(copy.run("mean"), 0, "proved mean", "")
         assert (copy.root / "crates/low/out/rlib/stamp").read_text() == "one\n"
 
     def test_what_was_there_before_it(self, copy):
-        expect(self.mark(copy, self.gate(copy, is_newer=False)), 0, "", "")
+        self.build(copy)
+        expect(self.mark(copy, self.begin(copy)), 0, "", "")
         expect(copy.run(), 0, "as written\na line", CHANGED)
         assert not (copy.root / "crates/low/out/rlib/stamp").exists()
 
     def test_without_a_word_of_it(self, copy):
-        self.gate(copy)
+        self.build(copy)
         expect(copy.run(), 0, "as written\na line", CHANGED)
 
     def test_a_source_that_changed_meanwhile(self, copy):
-        begun = self.gate(copy)
+        begun = self.begin(copy)
+        self.build(copy)
         copy.low.write_text("two\n")
         expect(self.mark(copy, begun), 1, "", "prove: a source was changed while the gate ran*")
         expect(copy.run(), 0, "as written\na line", CHANGED)
