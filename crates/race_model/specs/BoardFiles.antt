@@ -1,7 +1,7 @@
 -- The board file: every position of the home board, to 90 pips, whose games take at most 33 rolls.
 -- A mean is a numerator over 36 ^ 33, and a share is stored as a count of sequences. Source: this
 -- project's profile.
-use Rattle.std.specs.Prelude.{ℕ, zero, suc, ◌+◌, ◌-◌, ◌*◌, ◌^◌, ◌==◌, nat_le, if◌then◌else◌}
+use Rattle.std.specs.Prelude.{ℕ, ◌+◌, ◌-◌, ◌*◌, ◌^◌, nat_le, if◌then◌else◌}
 use Rattle.std.specs.Prelude.{List}
 use Rattle.std.specs.Int.{w16, w64, w128, from_be_bytes}
 use Rattle.race_model.specs.Positions.{pips}

@@ -1,6 +1,6 @@
 -- Lines of input: the six kinds of query, and when each is
 -- refused. Source: this project's profile.
-use Rattle.std.specs.Prelude.{◌≡◌, ℕ, ◌+◌, ◌<◌, ◌≤◌, ◌⊎◌, ◌==◌, List, [], ◌∷◌, ◌++◌, codes}
+use Rattle.std.specs.Prelude.{◌≡◌, ℕ, ◌+◌, ◌<◌, ◌≤◌, ◌⊎◌, ◌↔◌, ◌==◌, List, [], ◌∷◌, ◌++◌, codes}
 use Rattle.std.specs.List.{slice_split}
 use Rattle.race_model.specs.Positions.{Board, IsFinished, checkers, pips}
 use Rattle.race_model.specs.PositionText.{IsPositionText}
@@ -69,6 +69,11 @@ subject (play_query x v) = x
 subject (loss_query x v y) = x
 subject (moves_query x v) = x
 subject (rank_query x) = x
+
+-- a line asks of a position within two bounds, or within none of them
+abbrev pub IsWithinAlike : ℕ → ℕ → List ℕ → Type 0
+IsWithinAlike b c line =
+    (q : Query) → IsQuery line q → (pips (subject q) ≤ b) ↔ (pips (subject q) ≤ c)
 
 -- a position of the line has more than 15 checkers
 abbrev pub HasTooMany : Query → Type 0

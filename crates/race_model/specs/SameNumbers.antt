@@ -5,13 +5,12 @@ use Rattle.race_model.specs.Dice.{Throw}
 use Rattle.race_model.specs.Books.{Book, mean_in, play_in, share_in}
 use Rattle.race_model.specs.Files.{book_of}
 
--- the same bound, and for each position of at most it the same plays
-pub record HasSamePlays (f g : Book) : Type 0 where
-  pub bound : f.bound ≡ g.bound
-  pub plays : (x : Board) (v : Throw) → IsPosition x → pips x ≤ f.bound →
-      play_in f x v ≡ play_in g x v
+-- the same plays, for each position that is within the bounds of both
+abbrev pub HasSamePlays : Book → Book → Type 0
+HasSamePlays f g = (x : Board) (v : Throw) → IsPosition x → pips x ≤ f.bound → pips x ≤ g.bound →
+    play_in f x v ≡ play_in g x v
 
--- .. and the same mean and shares
+-- one bound, and for each position within it the same mean, plays and shares
 pub record HasSameNumbersIn (f g : Book) : Type 0 where
   pub bound : f.bound ≡ g.bound
   pub means : (x : Board) → IsPosition x → pips x ≤ f.bound → mean_in f x ≡ mean_in g x
