@@ -1,6 +1,6 @@
--- The proofs of the laws in src/laws. Each law's own file, laws/SUBJECT/law_NAME/Answers.antt,
--- names the lemmas that it is; the lemmas stand here by subject, the lowest first. The page
--- docs/definitions.md leads from the headline to the modules that its proof rests on.
+-- The proofs of the laws in src/laws. The lemmas that a law is stand in WhyLaws, or in a file of
+-- its own, laws/SUBJECT/law_NAME/Answers.antt; the lemmas are here by subject, the lowest first.
+-- The page docs/definitions.md leads from the headline to the modules that its proof rests on.
 pub mod Numbers
 pub mod Dice
 pub mod Positions
@@ -11,3 +11,4 @@ pub mod Books
 pub mod RightFiles
 pub mod FirstFaults
 pub mod Replies
+pub mod WhyLaws

@@ -3,9 +3,9 @@
 use Rattle.std.proofs.Common.{◌≡◌, ⊎_elim, ℕ, zero, suc, ◌+◌, ◌*◌, ◌^◌, ◌≤◌, sum_by, cond, eq-eqb}
 use Rattle.std.proofs.Common.{ne_eqb, refl, ap, sym, subst, ◌∙◌, arith, le_trans, le_of_lt}
 use Rattle.race_model.specs.Positions.{Board, IsPosition, IsFinished, checkers, pips}
-use Rattle.race_model.specs.Dice.{Throw, reversed, throws, weighted}
+use Rattle.race_model.specs.Dice.{Throw, throws, weighted}
 use Rattle.race_model.specs.Plays.{Legal}
-use Rattle.race_model.specs.Ranks.{rank, at_rank}
+use Rattle.race_model.specs.Ranks.{rank}
 use Rattle.race_model.specs.Strategies.{Strategy, stop, turn, Fits, IsWithin, EndsIn}
 use Rattle.race_model.specs.Strategies.{total_over, count_over}
 use Rattle.race_model.specs.Books.{Book, mean_in, play_in, recorded_in, share_in, IsPlayedIn, follow_in, IsRightBook}

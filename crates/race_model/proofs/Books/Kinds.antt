@@ -1,18 +1,23 @@
--- Two right books of one bound that say the same plays, of which one counts over some throws more:
--- its numbers are those of the other times the sequences of these throws.
+-- Two right books of which one counts over some throws more: within the bounds of both its means
+-- are those of the other times the sequences of these throws, and with the same plays so are its
+-- shares.
 use Rattle.std.proofs.Common.{◌≡◌, ℕ, zero, suc, ◌+◌, ◌*◌, ◌^◌, ◌<◌, ◌≤◌, ◌==◌, if◌then◌else◌, refl}
 use Rattle.std.proofs.Common.{ap, ap₂, sym, subst, ◌∙◌, arith, le_trans}
-use Rattle.std.proofs.Math.Nat.{pow-succ'}
+use Rattle.std.proofs.Math.Nat.{pow-succ', mul-le-mul_left}
 use mathlib.Core.Path.{fun_ext}
 use Rattle.race_model.specs.Positions.{Board, IsPosition, checkers, pips}
-use Rattle.race_model.specs.Dice.{Throw}
-use Rattle.race_model.specs.Ranks.{at_rank}
+use Rattle.race_model.specs.BestPlays.{IsBestPlay}
+use Rattle.race_model.specs.Dice.{Throw, IsRoll}
+use Rattle.race_model.specs.Plays.{Legal}
+use Rattle.race_model.specs.Ranks.{rank, at_rank}
 use Rattle.race_model.specs.Strategies.{Strategy, stop, turn, Fits, IsWithin, total_over, count_over}
 use Rattle.race_model.specs.Books.{Book, mean_in, play_in, recorded_in, share_in, IsPlayedIn}
 use Rattle.race_model.specs.LocalEquations.{IsLong}
 use Rattle.race_model.specs.Books.{follow_in, IsRightIn, IsRightBook}
 use Rattle.race_model.specs.SameNumbers.{HasSamePlays}
+use Rattle.race_model.proofs.Dice.Throws.{by_rolls}
 use Rattle.race_model.proofs.Plays.Results.{legal_position, legal_pips}
+use Rattle.race_model.proofs.Ranks.BestPlays.{best-times, best-one}
 use Rattle.race_model.proofs.Strategies.Histories.{fits_within, within_up, count_over-beyond}
 use Rattle.race_model.proofs.Strategies.Histories.{total_over-more, count_over-more}
 use Rattle.race_model.proofs.Books.FromRight.{follow_in-more}
@@ -69,58 +74,90 @@ same_follow f g bound played same (suc n) x at low =
     (le_trans (legal_pips x v (recorded_in f x v) (played x at low v).legal) low)
     ∙ ap (λ r. follow_in g n (at_rank r)) (same x v at low)))
 
-module _ (f g : Book) (right_f : IsRightBook f) (right_g : IsRightBook g) (long : IsLong f)
-    (same : HasSamePlays f g) (d : ℕ) (more : d + suc f.further ≡ suc g.further) (x : Board)
-    (at : IsPosition x) (low : pips x ≤ f.bound) where
-  -- what the first book plays
-  plan : Strategy
-  plan = follow_in f (suc f.further) x
+-- the plays that a book says are the best ones
+abbrev pub HasBestPlays : Book → Type 0
+HasBestPlays f = (x : Board) → IsPosition x → pips x ≤ f.bound → (v : Throw) → IsRoll v →
+    IsBestPlay f.means x v (play_in f x v)
 
+-- those of two books are the same where the means of one are multiples of the other's
+pub same_best : (f g : Book) (c : ℕ) → 0 < c → ((x : Board) → IsPosition x → pips x ≤ f.bound →
+    pips x ≤ g.bound → mean_in g x ≡ c * mean_in f x) →
+    HasBestPlays f → HasBestPlays g → HasSamePlays f g
+same_best f g c some times best_f best_g x v at low other =
+    by_rolls (λ i u. f.plays (rank x) i ≡ g.plays (rank x) i) (λ i u e. e)
+    (λ u is.
+    best-one g.means x u (play_in f x u) (play_in g x u)
+    (best-times f.means g.means c (Legal x u) (play_in f x u) some
+    (λ z legal.
+    times z (legal_position x u z at legal) (le_trans (legal_pips x u z legal) low)
+    (le_trans (legal_pips x u z legal) other)) (best_f x at low u is))
+    (best_g x at other u is))
+    v
+
+-- a position within the bounds of two right books
+module _ (f g : Book) (right_f : IsRightBook f) (right_g : IsRightBook g) (long : IsLong f) (d : ℕ)
+    (more : d + suc f.further ≡ suc g.further) (x : Board) (at : IsPosition x)
+    (low : pips x ≤ f.bound) (other : pips x ≤ g.bound) where
   ours : IsRightIn f x
   ours = right_f x at low
 
   theirs : IsRightIn g x
-  theirs = right_g x at (subst (λ b. pips x ≤ b) same.bound low)
+  theirs = right_g x at other
 
-  -- .. which the other plays too
-  followed : follow_in g (suc g.further) x ≡ plan
-  unfolding plan
-  followed =
-      let one =
-      same_follow f g f.bound (λ y is under. (right_f y is under).played) same.plays
-      (suc f.further) x at low in
-      follow_in-further g (suc f.further) d (suc g.further) x more
-      (subst (λ s. Fits s x) one ours.fits)
-      ∙ sym one
+  -- its games have no more turns than the first counts over
+  within : (s : Strategy) → Fits s x → IsWithin (suc f.further) s
+  within s fits = fits_within (suc f.further) x s (long x at low) fits
 
-  within : IsWithin (suc f.further) plan
-  unfolding plan
-  within = fits_within (suc f.further) x plan (long x at low) ours.fits
+  -- so the rolls of a strategy are a multiple
+  further_total : (s : Strategy) → Fits s x →
+      total_over (suc g.further) s ≡ 36 ^ d * total_over (suc f.further) s
+  further_total s fits =
+      total_over-further (suc f.further) (suc f.further) d (suc g.further) s more (within s fits)
+      (omega arith)
 
-  -- the means
+  -- .. and the least of them, which is the mean
   pub further_mean : mean_in g x ≡ 36 ^ d * mean_in f x
-  unfolding plan
   further_mean =
-      sym theirs.mean_is
-      ∙ ap (total_over (suc g.further)) followed
-      ∙ total_over-further (suc f.further) (suc f.further) d (suc g.further) plan more within
-      (omega arith)
-      ∙ ap (λ t. 36 ^ d * t) ours.mean_is
+      let one = ours.least.reached in
+      let two = theirs.least.reached in
+      let below = theirs.least.least one.0 one.1 in
+      let above = mul-le-mul_left (36 ^ d) (ours.least.least two.0 two.1) in
+      let first = further_total one.0 one.1 ∙ ap (λ t. 36 ^ d * t) one.2 in
+      let second = sym (further_total two.0 two.1) ∙ two.2 in
+      omega arith
 
-  -- the shares
-  pub further_share : (k : ℕ) → k ≤ suc f.further → share_in g x k ≡ 36 ^ d * share_in f x k
-  unfolding plan
-  further_share k le =
-      theirs.spread_is k (omega (arith, more))
-      ∙ ap (λ s. count_over (suc g.further) s k) followed
-      ∙ count_over-further (suc f.further) (suc f.further) d (suc g.further) k plan more within
-      (omega arith)
-      ∙ ap (λ t. 36 ^ d * t) (sym (ours.spread_is k le))
+  -- with the same plays
+  module _ (same : HasSamePlays f g) where
+    -- what the first book plays
+    plan : Strategy
+    plan = follow_in f (suc f.further) x
 
-  -- .. and no other share
-  pub no_further_share : (k : ℕ) → suc f.further < k → k ≤ suc g.further → share_in g x k ≡ 0
-  unfolding plan
-  no_further_share k beyond le =
-      theirs.spread_is k le
-      ∙ ap (λ s. count_over (suc g.further) s k) followed
-      ∙ count_over-beyond (suc g.further) (suc f.further) k plan within beyond
+    -- the other plays, too
+    followed : follow_in g (suc g.further) x ≡ plan
+    unfolding plan
+    followed =
+        let one =
+        same_follow f g (pips x) (λ y is under. (right_f y is (le_trans under low)).played)
+        (λ y v is under. same y v is (le_trans under low) (le_trans under other))
+        (suc f.further) x at (omega arith) in
+        follow_in-further g (suc f.further) d (suc g.further) x more
+        (subst (λ s. Fits s x) one ours.fits)
+        ∙ sym one
+
+    -- so the shares are multiples
+    pub further_share : (k : ℕ) → k ≤ suc f.further → share_in g x k ≡ 36 ^ d * share_in f x k
+    unfolding plan
+    further_share k le =
+        theirs.spread_is k (omega (arith, more))
+        ∙ ap (λ s. count_over (suc g.further) s k) followed
+        ∙ count_over-further (suc f.further) (suc f.further) d (suc g.further) k plan more
+        (within plan ours.fits) (omega arith)
+        ∙ ap (λ t. 36 ^ d * t) (sym (ours.spread_is k le))
+
+    -- .. and there is no other
+    pub no_further_share : (k : ℕ) → suc f.further < k → k ≤ suc g.further → share_in g x k ≡ 0
+    unfolding plan
+    no_further_share k beyond le =
+        theirs.spread_is k le
+        ∙ ap (λ s. count_over (suc g.further) s k) followed
+        ∙ count_over-beyond (suc g.further) (suc f.further) k plan (within plan ours.fits) beyond

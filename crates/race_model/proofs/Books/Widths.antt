@@ -1,7 +1,5 @@
 -- A count of a board file stands behind the counts of fewer throws.
-use Rattle.std.proofs.Common.{◌≡◌, ⊎_elim, ℕ, zero, suc, ◌+◌, ◌-◌, ◌*◌, ◌≤◌, sum_by, refl, ap, arith}
-use Rattle.std.proofs.Common.{le-leb, leb-false, if◌then◌else◌}
-use Rattle.std.proofs.lemmas.Bool.{cases_lt}
+use Rattle.std.proofs.Common.{◌≡◌, ℕ, zero, suc, ◌+◌, ◌-◌, ◌*◌, ◌≤◌, sum_by, refl, arith}
 use Rattle.race_model.specs.Ranks.{numbers_from}
 use Rattle.race_model.specs.Horizon.{most_rolls}
 use Rattle.race_model.specs.BoardFiles.{count_width, count_place, board_length}

@@ -1,6 +1,7 @@
 -- The best of some positions: what a throw or a run leads to has lower ranks, so the best goes by
 -- the means of lower ranks alone, and at the end it is rank 0.
-use Rattle.std.proofs.Common.{◌≡◌, ⊎_elim, ℕ, ◌<◌, List, ◌∷◌, sym, ap, subst, ◌∙◌, arith}
+use Rattle.std.proofs.Common.{◌≡◌, ⊎_elim, ℕ, ◌*◌, ◌<◌, List, ◌∷◌, sym, ap, subst, ◌∙◌, arith}
+use Rattle.std.proofs.Math.Nat.{eq_of_mul-eq-mul_left, mul-le-mul_left}
 use Rattle.race_model.specs.Positions.{Board, IsPosition, IsFinished}
 use Rattle.race_model.specs.Dice.{Die, Throw}
 use Rattle.race_model.specs.Plays.{Run, Legal}
@@ -39,6 +40,23 @@ best-agree mean other Reached r agree best =
           let e = agree z got in
           omega arith;
       lowest = λ z got same. best.lowest z got (agree z got ∙ (same ∙ sym here));
+    }
+
+-- .. and by means that are multiples of these by one number
+pub best-times : (mean other : ℕ → ℕ) (c : ℕ) (Reached : Board → Type 0) (r : ℕ) → 0 < c →
+    ((z : Board) → Reached z → other (rank z) ≡ c * mean (rank z)) → IsBestOf mean Reached r →
+    IsBestOf other Reached r
+best-times mean other c Reached r some times best =
+    let here : other r ≡ c * mean r =
+    subst (λ q. other q ≡ c * mean q) best.reached.2 (times best.reached.0 best.reached.1) in
+    record {
+      reached = best.reached;
+      least = λ z got.
+          let le = mul-le-mul_left c (best.least z got) in
+          let e = times z got in
+          omega arith;
+      lowest = λ z got same. best.lowest z got
+          (eq_of_mul-eq-mul_left c some (mean (rank z)) (mean r) (sym (times z got) ∙ same ∙ here));
     }
 
 -- there is one best

@@ -1,5 +1,6 @@
--- Two books that say the same give the same reply to each line. One may count over more throws than
--- the other, so that its numbers are multiples of the other's: a reply says them in lowest terms.
+-- Two books that say the same within the bounds of both give the same reply to each line that asks
+-- of a position there. One may count over more throws than the other, so that its numbers are
+-- multiples of the other's: a reply says them in lowest terms.
 use Rattle.std.proofs.Common.{◌≡◌, ◌⊎◌, ⊎_elim, inl, inr, ℕ, zero, suc, ◌-◌, ◌<◌, ◌≤◌, List}
 use Rattle.std.proofs.Common.{[], ◌∷◌, ◌++◌, length, get_or, slice_index_or, codes, refl, ap, sym, subst}
 use Rattle.std.proofs.Common.{subst₂, ◌∙◌, arith, le_trans}
@@ -15,7 +16,8 @@ use Rattle.race_model.specs.Books.{Book, mean_in, play_in, recorded_in, share_in
 use Rattle.race_model.specs.Losses.{loss_in, IsListedBeforeIn, IsMoveListIn}
 use Rattle.race_model.specs.Queries.{Query, mean_query, dist_query, play_query, loss_query}
 use Rattle.race_model.specs.Queries.{moves_query, rank_query, IsQuery, HasTooMany, HasResult}
-use Rattle.race_model.specs.Queries.{subject, IsRefused, IsAccepted}
+use Rattle.race_model.specs.Queries.{subject, Refusal, IsRefused, IsWithinAlike}
+use Rattle.race_model.specs.Queries.{no_query, of_too_many, of_over_bound, of_finished, of_no_result}
 use Rattle.race_model.specs.Replies.{IsShareTextOver, IsMeanReplyOver, IsSharePartOver, IsDistReplyOver}
 use Rattle.race_model.specs.Replies.{IsPlayReply, IsAnswerOver, IsReplyOver, answered, refused}
 use Rattle.race_model.proofs.Plays.Results.{legal_position, legal_pips}
@@ -23,6 +25,12 @@ use Rattle.race_model.proofs.Plays.Results.{legal_position, legal_pips}
 -- a number that is not over 15
 at_most : (n : ℕ) → ¬ (15 < n) → n ≤ 15
 at_most n few = grind arith
+
+-- a number over a bound is over one that it is as well within
+over_too : (n b c : ℕ) → (n ≤ c → n ≤ b) → b < n → c < n
+over_too n b c within over =
+    ⊎_elim (λ beyond. beyond) (λ le. absurd (omega (arith, within (omega (arith, le)), over)))
+    (cases_lt c n)
 
 -- so many parts of a list, the last of them empty where it has fewer
 fit : ℕ → List (List ℕ) → List (List ℕ)
@@ -70,24 +78,32 @@ pub record IsCarried (whole over : ℕ) (R : ℕ → ℕ → Type 0) : Type 0 wh
   pub none : (a b : ℕ) → R a b → b ≡ 0 → a ≡ 0
   pub some : (a b : ℕ) → R a b → 0 < b → 0 < a
 
--- a book whose numbers stand for those of another
+-- a position within the bounds of two books
+abbrev pub IsLow : Book → Book → Board → Type 0
+IsLow f g x = (pips x ≤ f.bound) × (pips x ≤ g.bound)
+
+-- .. and so what a throw leads to
+lower : (f g : Book) (x : Board) (v : Throw) (y : Board) → IsLow f g x → Legal x v y → IsLow f g y
+lower f g x v y low legal =
+    (le_trans (legal_pips x v y legal) low.0, le_trans (legal_pips x v y legal) low.1)
+
+-- a book whose numbers stand there for those of another
 pub record Carries (R : ℕ → ℕ → Type 0) (f g : Book) : Type 0 where
-  pub bound : f.bound ≡ g.bound
-  pub played : (x : Board) (v : Throw) → IsPosition x → pips x ≤ f.bound → IsPlayedIn f x v
-  pub plays : (x : Board) (v : Throw) → IsPosition x → pips x ≤ f.bound →
+  pub played : (x : Board) (v : Throw) → IsPosition x → IsLow f g x → IsPlayedIn f x v
+  pub plays : (x : Board) (v : Throw) → IsPosition x → IsLow f g x →
       play_in f x v ≡ play_in g x v
-  pub means : (x : Board) → IsPosition x → pips x ≤ f.bound → R (mean_in f x) (mean_in g x)
-  pub shares : (x : Board) (k : ℕ) → IsPosition x → pips x ≤ f.bound → k ≤ suc f.further →
+  pub means : (x : Board) → IsPosition x → IsLow f g x → R (mean_in f x) (mean_in g x)
+  pub shares : (x : Board) (k : ℕ) → IsPosition x → IsLow f g x → k ≤ suc f.further →
       k ≤ suc g.further → R (share_in f x k) (share_in g x k)
-  pub further : (x : Board) (k : ℕ) → IsPosition x → pips x ≤ f.bound → suc f.further < k →
+  pub further : (x : Board) (k : ℕ) → IsPosition x → IsLow f g x → suc f.further < k →
       k ≤ suc g.further → share_in g x k ≡ 0
-  pub fewer : (x : Board) (k : ℕ) → IsPosition x → pips x ≤ f.bound → suc g.further < k →
+  pub fewer : (x : Board) (k : ℕ) → IsPosition x → IsLow f g x → suc g.further < k →
       k ≤ suc f.further → share_in f x k ≡ 0
 
 module _ (whole over : ℕ) (R : ℕ → ℕ → Type 0) (is : IsCarried whole over R) (f g : Book)
     (carries : Carries R f g) where
   -- the mean of what is said for a throw
-  mean_after : (x : Board) (v : Throw) → IsPosition x → pips x ≤ f.bound →
+  mean_after : (x : Board) (v : Throw) → IsPosition x → IsLow f g x →
       R (f.means (play_in f x v)) (g.means (play_in g x v))
   mean_after x v at low =
       let ours = carries.played x v at low in
@@ -96,18 +112,18 @@ module _ (whole over : ℕ) (R : ℕ → ℕ → Type 0) (is : IsCarried whole o
       ∙ ap g.means
       (subst (λ r. rank (at_rank r) ≡ r) (carries.plays x v at low) ours.ranked))
       (carries.means (recorded_in f x v) (legal_position x v (recorded_in f x v) at ours.legal)
-      (le_trans (legal_pips x v (recorded_in f x v) ours.legal) low))
+      (lower f g x v (recorded_in f x v) low ours.legal))
 
   -- the losses of results
-  loss_after : (x : Board) (v : Throw) (y : Board) → IsPosition x → pips x ≤ f.bound →
+  loss_after : (x : Board) (v : Throw) (y : Board) → IsPosition x → IsLow f g x →
       Legal x v y → R (loss_in f x v y) (loss_in g x v y)
   loss_after x v y at low leads =
       is.minus (mean_in f y) (mean_in g y) (f.means (play_in f x v)) (g.means (play_in g x v))
-      (carries.means y (legal_position x v y at leads) (le_trans (legal_pips x v y leads) low))
+      (carries.means y (legal_position x v y at leads) (lower f g x v y low leads))
       (mean_after x v at low)
 
   -- the lists of moves are the same
-  same_list : (x : Board) (v : Throw) (ys : List Board) → IsPosition x → pips x ≤ f.bound →
+  same_list : (x : Board) (v : Throw) (ys : List Board) → IsPosition x → IsLow f g x →
       IsMoveListIn f x v ys → IsMoveListIn g x v ys
   same_list x v ys at low listed = record { members = listed.members; ordered = ordered }
     where
@@ -137,7 +153,7 @@ module _ (whole over : ℕ) (R : ℕ → ℕ → Type 0) (is : IsCarried whole o
           (at_place i (omega arith)) (at_place j inside) (listed.ordered i j before inside)
 
   -- a distribution: beyond the shares of both there are none
-  same_dist : (x : Board) (text : List ℕ) → IsPosition x → pips x ≤ f.bound →
+  same_dist : (x : Board) (text : List ℕ) → IsPosition x → IsLow f g x →
       IsDistReplyOver whole (suc f.further) (share_in f x) text →
       IsDistReplyOver over (suc g.further) (share_in g x) text
   same_dist x text at low reply = record {
@@ -182,7 +198,7 @@ module _ (whole over : ℕ) (R : ℕ → ℕ → Type 0) (is : IsCarried whole o
 
   -- the answers are the same
   same_answer : (q : Query) (text : List ℕ) → HasResult q → IsPosition (subject q) →
-      pips (subject q) ≤ f.bound → IsAnswerOver whole f q text → IsAnswerOver over g q text
+      IsLow f g (subject q) → IsAnswerOver whole f q text → IsAnswerOver over g q text
   same_answer (mean_query x) text leads at low answer =
       is.mean (mean_in f x) (mean_in g x) text (carries.means x at low) answer
   same_answer (dist_query x) text leads at low answer = same_dist x text at low answer
@@ -245,12 +261,29 @@ module _ (whole over : ℕ) (R : ℕ → ℕ → Type 0) (is : IsCarried whole o
     few = at_most (checkers x) few;
   }
 
-  -- the replies are the same
-  pub same_reply : (line text : List ℕ) → IsReplyOver whole f line text →
-      IsReplyOver over g line text
-  same_reply line text (answered q answer accepted says written) =
-      answered q answer (subst (λ b. IsAccepted b line q) carries.bound accepted)
-      (same_answer q answer accepted.result
-      (subject_position line q accepted.query accepted.few) accepted.within says) written
-  same_reply line text (refused why because written) =
-      refused why (subst (λ b. IsRefused b line why) carries.bound because) written
+  -- the replies are the same, to a line that asks of a position within both bounds or within none
+  module _ (line text : List ℕ) (alike : IsWithinAlike f.bound g.bound line) where
+    refused_too : (why : Refusal) → IsRefused f.bound line why → IsRefused g.bound line why
+    refused_too _ (no_query none) = no_query none
+    refused_too _ (of_too_many q is many) = of_too_many q is many
+    refused_too _ (of_over_bound q is few over) =
+        of_over_bound q is few (over_too (pips (subject q)) f.bound g.bound (alike q is).1 over)
+    refused_too _ (of_finished q is few within none) =
+        of_finished q is few ((alike q is).0 within) none
+    refused_too _ (of_no_result q is few within some none) =
+        of_no_result q is few ((alike q is).0 within) some none
+
+    pub same_reply : IsReplyOver whole f line text → IsReplyOver over g line text
+    same_reply (answered q answer accepted says written) =
+        let low = (alike q accepted.query).0 accepted.within in
+        answered q answer
+        (record {
+          query = accepted.query;
+          few = accepted.few;
+          within = low;
+          unfinished = accepted.unfinished;
+          result = accepted.result;
+        })
+        (same_answer q answer accepted.result
+        (subject_position line q accepted.query accepted.few) (accepted.within, low) says) written
+    same_reply (refused why because written) = refused why (refused_too why because) written

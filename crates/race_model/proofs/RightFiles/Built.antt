@@ -5,11 +5,12 @@ use Rattle.race_model.specs.Files.{book_of}
 use Rattle.race_model.specs.Books.{recorded_in}
 use Rattle.race_model.specs.BuiltFile.{IsBuilt}
 use Rattle.race_model.specs.SameNumbers.{HasSameNumbers}
-use Rattle.race_model.proofs.Books.OneBook.{HasBestPlays, one_book}
+use Rattle.race_model.proofs.Books.Kinds.{HasBestPlays}
+use Rattle.race_model.proofs.Books.OneBook.{one_book}
 use Rattle.race_model.proofs.RightFiles.Right.{right_of_local}
 
 -- of the plays to a least mean the one of lowest rank is recorded
-built_best : (version : Version) (bound : ℕ) (f : List ℕ) → IsBuilt version bound f →
+pub built_best : (version : Version) (bound : ℕ) (f : List ℕ) → IsBuilt version bound f →
     HasBestPlays (book_of f)
 built_best version bound f built x at low v is =
     let here = (built.local.at_each x at low).means in

@@ -4,7 +4,7 @@ use Rattle.std.proofs.Common.{refl, ap, sym, subst, ◌∙◌, arith}
 use Rattle.race_model.specs.Versions.{Version, full, compact, version_number}
 use Rattle.race_model.specs.Files.{layout_of, version_of}
 use Rattle.race_model.specs.BoardFiles.{board_layout}
-use Rattle.race_model.specs.RightFiles.{Kind, database, board, kind_by, kind_of}
+use Rattle.race_model.specs.RightFiles.{kind_by, kind_of}
 use Rattle.race_model.specs.RightFiles.{IsRightBy, IsRight, IsRightDatabase, IsRightBoard}
 use Rattle.race_model.proofs.FirstFaults.HeaderFacts.{stated_number}
 

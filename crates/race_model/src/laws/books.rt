@@ -1,14 +1,21 @@
-//! Laws of books: what holds of a database whatever its bytes, and whatever its number of throws.
-ghost use Rattle.std.specs.Prelude.{◌≡◌, ℕ, suc, ◌+◌, ◌*◌, ◌^◌, ◌≤◌, ◌↔◌, List, sum_by};
-ghost use Rattle.race_model.specs.Positions.{Board, IsPosition, pips};
+//! Laws of books: what holds of a database whatever its bytes, and whatever its number of throws;
+//! what a play costs; and what a check of the whole home board establishes.
+ghost use Rattle.std.specs.Prelude.{◌≡◌, ℕ, suc, ◌+◌, ◌*◌, ◌^◌, ◌≤◌, ◌↔◌, List, sum_by, ◌-◌};
+ghost use Rattle.race_model.specs.Positions.{Board, IsPosition, pips, IsFinished};
 ghost use Rattle.race_model.specs.Dice.{Throw, throws};
-ghost use Rattle.race_model.specs.Ranks.{rank};
+ghost use Rattle.race_model.specs.Ranks.{rank, numbers_from};
 ghost use Rattle.race_model.specs.Horizon.{most_rolls};
 ghost use Rattle.race_model.specs.LocalEquations.{IsLocalAt, IsLocalIn, IsLocalBook, IsLong, HasShareIn};
-ghost use Rattle.race_model.specs.Strategies.{Strategy, turn, IsWithin, EndsIn, count_over};
-ghost use Rattle.race_model.specs.Books.{Book, IsRightBook, follow_in};
+ghost use Rattle.race_model.specs.Strategies.{Strategy, turn, IsWithin, EndsIn, count_over, Fits, total_over};
+ghost use Rattle.race_model.specs.Strategies.{IsLeastIn};
+ghost use Rattle.race_model.specs.Books.{Book, IsRightBook, follow_in, mean_in, play_in};
 ghost use Rattle.race_model.specs.Endings.{endings, IsCounted, HasCountIn};
-ghost use Rattle.race_model.specs.Files.{IsFile, book_of};
+ghost use Rattle.race_model.specs.Files.{IsFile, book_of, bound_of};
+ghost use Rattle.race_model.specs.Plays.{Legal};
+ghost use Rattle.race_model.specs.Losses.{loss_in, IsLossIn, BeginsWith};
+ghost use Rattle.race_model.specs.BoardFiles.{board_book, count_at, count_place, count_width, board_length};
+ghost use Rattle.race_model.specs.RightFiles.{IsRightBoard};
+ghost use Rattle.race_model.specs.BoardEquations.{IsLocalBoard};
 
 /// The theorem for any number of throws: the local equations hold of a book exactly where it is
 /// right, if each game from a position of at most its bound is over within its sequences. So it is
@@ -41,4 +48,45 @@ pub fn law_endings()
     ensures right { (f : Book) (counts : ℕ → ℕ → ℕ) → IsCounted f counts → IsRightBook f →
         (x : Board) → IsPosition x → pips x ≤ f.bound → (k : ℕ) → k ≤ suc f.further →
         counts (rank x) k ≡ endings (follow_in f (suc f.further) x) k }
+{}
+
+/// What a play costs, by a right book whose sequences are long enough: the mean after the result
+/// less the mean after the recorded play, which is never greater, is the loss, the least mean after
+/// that result less the least such mean among all results of the throw. It is 0 exactly where some
+/// strategy of least mean begins with that play. (`law_books` says that the book of a database, and
+/// one over 33 throws, is long enough.)
+pub fn law_loss()
+    ensures least { (b : Book) → IsLong b → IsRightBook b → (x : Board) →
+        IsPosition x → pips x ≤ b.bound → (v : Throw) (y : Board) → Legal x v y →
+        b.means (play_in b x v) ≤ mean_in b y }
+    ensures loss { (b : Book) → IsLong b → IsRightBook b → (x : Board) →
+        IsPosition x → pips x ≤ b.bound → (v : Throw) (y : Board) → Legal x v y →
+        IsLossIn (suc b.further) x v y (loss_in b x v y) }
+    ensures none { (b : Book) → IsLong b → IsRightBook b → (x : Board) →
+        IsPosition x → pips x ≤ b.bound → ¬ IsFinished x → (v : Throw) (y : Board) →
+        Legal x v y → (loss_in b x v y ≡ 0) ↔ ((s : Strategy) × Fits s x
+        × IsLeastIn (suc b.further) x (total_over (suc b.further) s) × BeginsWith s v y) }
+{}
+
+/// A board file meets the equations of its records exactly where it is right: its means are the
+/// least over all strategies, its plays reach them, and its shares are those of its plays, over
+/// all sequences of 33 throws. Then a count of k throws is of the sequences of k throws how many
+/// end the game of these plays with the last one.
+#[tactic(auto, using(crate::proofs::WhyLaws::law_boards))]
+pub fn law_boards()
+    ensures right { (f : List ℕ) → IsLocalBoard f → IsRightBoard f }
+    ensures local { (f : List ℕ) → IsRightBoard f → IsLocalBoard f }
+    ensures counts { (f : List ℕ) → IsRightBoard f → (x : Board) → IsPosition x →
+        pips x ≤ bound_of f → (k : ℕ) → k ≤ 33 →
+        count_at f (rank x) k ≡ endings (follow_in (board_book f) 33 x) k }
+{}
+
+/// Where a count begins in a record: behind the mean, the plays and the counts of fewer throws. So
+/// a record is as long as its parts.
+#[tactic(auto, using(crate::proofs::WhyLaws::law_widths))]
+pub fn law_widths()
+    ensures place { (k : ℕ) → 1 ≤ k → k ≤ 34 →
+        count_place k ≡ 66 + sum_by count_width (numbers_from 1 (k - 1)) }
+    ensures length { (p : ℕ) → p ≤ 90 →
+        board_length p ≡ 66 + sum_by count_width (numbers_from 1 (most_rolls p)) }
 {}

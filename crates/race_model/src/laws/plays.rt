@@ -1,13 +1,15 @@
-//! Laws of plays: steps, throws, results, and the rule as rule books have it.
-ghost use Rattle.std.specs.Prelude.{◌≡◌, ℕ, ◌<◌, ◌≤◌, ◌↔◌, List, [], ◌∷◌, Contains};
+//! Laws of dice and plays: the 21 rolls, steps, throws and results, and the rule as rule books have
+//! it.
+ghost use Rattle.std.specs.Prelude.{◌≡◌, ℕ, ◌<◌, ◌≤◌, ◌↔◌, List, [], ◌∷◌, Contains, ◌⊎◌};
 ghost use Rattle.race_model.specs.Positions.{Board, IsPosition, IsFinished, finished, pips};
-ghost use Rattle.race_model.specs.Dice.{Die, one, four, six, Throw, reversed, IsRoll, roll_at};
+ghost use Rattle.race_model.specs.Dice.{Die, one, four, six, Throw, reversed, IsRoll, roll_at, roll_index};
 ghost use Rattle.race_model.specs.Plays.{Step, Legal};
 ghost use Rattle.race_model.specs.Enumerations.{all_results};
 ghost use Rattle.race_model.specs.MostDice.{MostDice};
 ghost use Rattle.race_model.specs.LocalEquations.{IsPlayed, IsBest};
 
 /// An unfinished position has a step for every die (the bearing-off rules of backgammon).
+#[tactic(auto, using(crate::proofs::WhyLaws::law_playable))]
 pub fn law_playable()
     ensures { (x : Board) (d : Die) → IsPosition x → ¬ IsFinished x → (y : Board) × Step x d y }
 {}
@@ -60,4 +62,15 @@ pub fn law_enumerated()
         (record { first = one; second = one })
         ≡ (0 ∷ 1 ∷ 0 ∷ 0 ∷ 0 ∷ 0 ∷ []) ∷ [] }
     ensures end { all_results finished (record { first = six; second = six }) ≡ finished ∷ [] }
+{}
+
+/// Each roll has an index from 0 to 20, and each such index has a roll. A throw or its reverse is
+/// a roll, and both have the index of that roll (the rules of backgammon; the index is this
+/// project's profile).
+#[tactic(auto, using(crate::proofs::WhyLaws::law_rolls))]
+pub fn law_rolls()
+    ensures index { (v : Throw) → IsRoll v → (roll_index v < 21) × (roll_at (roll_index v) ≡ v) }
+    ensures roll { (i : ℕ) → i < 21 → IsRoll (roll_at i) × (roll_index (roll_at i) ≡ i) }
+    ensures either { (v : Throw) → IsRoll v ⊎ IsRoll (reversed v) }
+    ensures same_index { (v : Throw) → roll_index (reversed v) ≡ roll_index v }
 {}

@@ -6,6 +6,7 @@ ghost use Rattle.race_model.specs.Ranks.{rank, at_rank, count_to, first_of, posi
 /// The ranks of positions: each position is found by its rank and by no other, ranks rise with the
 /// pips, so the positions of at most a number of pips have the ranks below their count, and the
 /// finished position is the first of 54,264. (This project's profile.)
+#[tactic(auto, using(crate::proofs::WhyLaws::law_rank))]
 pub fn law_rank()
     ensures found { (x : Board) → IsPosition x → at_rank (rank x) ≡ x }
     ensures apart { (x y : Board) → IsPosition x → IsPosition y → rank x ≡ rank y → x ≡ y }

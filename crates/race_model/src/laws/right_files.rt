@@ -1,5 +1,5 @@
 //! Laws of files, the headline's among them: locally right is right, and nothing else is.
-ghost use Rattle.std.specs.Prelude.{◌≡◌, ℕ, suc, ◌+◌, ◌*◌, ◌<◌, ◌≤◌, ◌⊎◌, List, sum_by};
+ghost use Rattle.std.specs.Prelude.{◌≡◌, ℕ, suc, ◌+◌, ◌*◌, ◌<◌, ◌≤◌, ◌⊎◌, List, sum_by, ◌↔◌};
 ghost use Rattle.std.specs.List.{range_with_len};
 ghost use Rattle.race_model.specs.Positions.{Board, IsPosition, IsFinished, pips};
 ghost use Rattle.race_model.specs.Dice.{Throw};
@@ -14,6 +14,8 @@ ghost use Rattle.race_model.specs.SameNumbers.{HasSameNumbers};
 ghost use Rattle.race_model.specs.ToldShares.{told_share};
 ghost use Rattle.race_model.specs.Horizon.{most_rolls};
 ghost use Rattle.race_model.specs.Books.{Book, mean_in, share_in, whole_in, IsRightBook};
+ghost use Rattle.race_model.specs.Replies.{IsReply};
+ghost use Rattle.race_model.specs.Upgrades.{IsUpgrade};
 
 /// The local equations, which test each record against records of lower rank alone, hold of a list
 /// of bytes exactly where it is a right file: its means are the least over all strategies, also
@@ -24,6 +26,7 @@ pub fn law_right()
 {}
 
 /// A right file, of whichever version its header states, is a right database or a right board file.
+#[tactic(auto, using(crate::proofs::WhyLaws::law_versions))]
 pub fn law_versions()
     ensures either { (f : List ℕ) → IsRight f → IsRightDatabase f ⊎ IsRightBoard f }
     ensures database { (f : List ℕ) → IsRightDatabase f → IsRight f }
@@ -64,6 +67,7 @@ pub fn law_agree()
 /// each times its number of rolls to the total; so do those of a right book whose sequences are
 /// long enough, and it has no share beyond the most rolls of a pip count: a record that leaves
 /// these out loses none, and a compact one tells them all.
+#[tactic(auto, using(crate::proofs::WhyLaws::law_spread))]
 pub fn law_spread()
     ensures strategy { (x : Board) (s : Strategy) → IsPosition x → pips x ≤ 58 → Fits s x →
         sum_by (count_of s) (range_with_len 0 23) ≡ whole }
@@ -80,4 +84,15 @@ pub fn law_spread()
         share_in b x k ≡ 0 }
     ensures told { (version : Version) (f : List ℕ) (x : Board) (k : ℕ) → IsPosition x →
         IsRightAt f x → k ≤ 22 → spread f x k ≡ told_share version (pips x) (spread f x) k }
+{}
+
+/// What an old file becomes. A file that holds the numbers of a right one is right, whatever its
+/// version; a file has one upgrade; and a right file and its upgrade give the same reply to each
+/// line.
+pub fn law_upgrade()
+    ensures right { (f g : List ℕ) → IsRightDatabase f → IsFile g → HasSameNumbers f g →
+        IsRightDatabase g }
+    ensures one { (f g h : List ℕ) → IsUpgrade f g → IsUpgrade f h → g ≡ h }
+    ensures replies { (f g : List ℕ) → IsRightDatabase f → IsUpgrade f g →
+        (line text : List ℕ) → IsReply f line text ↔ IsReply g line text }
 {}

@@ -11,6 +11,7 @@ ghost use Rattle.race_model.specs.Strategies.{count_of, IsLeastIn, IsLeast, IsWi
 /// What a turn adds, for every m. Its rolls over all sequences of m + 1 throws are one for each of
 /// these 36 ^ (m + 1) sequences and those of its branches over all sequences of m throws; and it
 /// needs k + 1 rolls just where the branch of the first throw needs k, and never none.
+#[tactic(auto, using(crate::proofs::WhyLaws::law_turn))]
 pub fn law_turn()
     ensures total { (m : ℕ) (to : Throw → Board) (next : Throw → Strategy) →
         total_over (suc m) (turn to next)
@@ -24,6 +25,7 @@ pub fn law_turn()
 /// What a throw more does, for every m: a strategy of at most m turns has over all sequences of m
 /// + 1 throws 36 times the rolls that it has over those of m throws, and 36 times the sequences
 /// for each number of rolls.
+#[tactic(auto, using(crate::proofs::WhyLaws::law_scale))]
 pub fn law_scale()
     ensures total { (m : ℕ) (s : Strategy) → IsWithin m s →
         total_over (suc m) s ≡ 36 * total_over m s }
@@ -50,6 +52,7 @@ pub fn law_horizon()
 /// Each position of at most 58 pips has a least total over all sequences of 22 throws, and each
 /// position has one over those of 33, whether or not a file records it; and over those of so many
 /// throws it has one alone.
+#[tactic(auto, using(crate::proofs::WhyLaws::law_least))]
 pub fn law_least()
     ensures some { (x : Board) → IsPosition x → pips x ≤ 58 → (t : ℕ) × IsLeast x t }
     ensures board { (x : Board) → IsPosition x → (t : ℕ) × IsLeastIn 33 x t }
@@ -60,6 +63,7 @@ pub fn law_least()
 /// sequences of two throws it needs 1,620 rolls in 1,296 sequences; in 972 of them one roll is
 /// enough, and in 324 two are needed. So over all sequences of 22 throws its mean is 5/4, one roll
 /// has the share 3/4 and two have 1/4. No strategy has less.
+#[tactic(auto, using(crate::proofs::WhyLaws::law_sample))]
 pub fn law_sample()
     ensures fits { Fits from_six_point (more finished 6) }
     ensures total { total_over 2 from_six_point ≡ 1620 }

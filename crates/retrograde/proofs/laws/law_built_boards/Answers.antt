@@ -1,5 +1,36 @@
+-- There is one built file of a bound, and within the bounds of both it plays as a built database.
+use Rattle.std.proofs.Common.{ℕ, ◌≤◌, ◌^◌, List, refl, sym, subst, subst₂}
+use Rattle.race_model.specs.Positions.{pips}
+use Rattle.race_model.specs.Versions.{Version}
+use Rattle.race_model.specs.Files.{book_of}
+use Rattle.race_model.specs.BoardFiles.{board_book}
+use Rattle.race_model.specs.BuiltFile.{IsBuilt}
+use Rattle.race_model.specs.Queries.{IsWithinAlike}
+use Rattle.race_model.specs.SameNumbers.{HasSamePlays}
+use Rattle.race_model.proofs.Books.Kinds.{further_mean, same_best}
+use Rattle.race_model.proofs.Replies.OneReply.{power_positive}
+use Rattle.race_model.proofs.RightFiles.Built.{built_best}
+use Rattle.race_model.proofs.RightFiles.Right.{right_of_local, short}
+use Rattle.retrograde.specs.BuiltBoards.{IsBuiltBoard}
 use Rattle.retrograde.proofs.UniqueBoards.{one_built}
 use Rattle.retrograde.proofs.laws.law_built_boards.Goals as goal
 
+same_plays : (version : Version) (b c : ℕ) (f g : List ℕ) → IsBuilt version b f →
+    IsBuiltBoard c g → HasSamePlays (book_of f) (board_book g)
+same_plays version b c f g built_f built_g =
+    let right = right_of_local f built_f.local in
+    same_best (book_of f) (board_book g) (36 ^ 11) (power_positive 11)
+    (further_mean (book_of f) (board_book g) right.book built_g.right.book (short f right.file) 11
+    refl)
+    (built_best version b f built_f)
+    (λ x at low. built_g.plays x at (subst (λ n. pips x ≤ n) built_g.bound_is low))
+
 pub returns : goal.returns
-returns c = one_built
+returns c = record {
+  one = one_built;
+  kinds =
+      λ version b d f g built_f built_g line text alike.
+      c.law_replies.ensures.kinds f g (right_of_local f built_f.local) built_g.right
+      (same_plays version b d f g built_f built_g) line text
+      (subst₂ (λ m n. IsWithinAlike m n line) (sym built_f.bound_is) (sym built_g.bound_is) alike);
+}

@@ -18,11 +18,11 @@ returns c = record {
   one_in = λ b. one_reply (whole_in b) (power_positive (suc b.further)) b;
   same = same_reply_of_files;
   kinds =
-      λ f g right board same line text. (
+      λ f g right board same line text alike. (
         reply_up (book_of f) (board_book g) right.book board.book (short f right.file) same 11 refl
-            line text,
+            line text alike,
         reply_down (book_of f) (board_book g) right.book board.book (short f right.file) same 11
-            refl line text,
+            refl line text alike,
       );
   book = λ f line text. (λ reply. reply, λ reply. reply);
 }

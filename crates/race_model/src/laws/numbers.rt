@@ -1,9 +1,11 @@
-//! Laws of sizes: how large recorded numbers can be.
-ghost use Rattle.std.specs.Prelude.{ℕ, ◌*◌, ◌≤◌, List};
+//! Laws of numbers: how large recorded ones can be, and that lowest terms and thousandths leave no
+//! choice.
+ghost use Rattle.std.specs.Prelude.{ℕ, ◌*◌, ◌≤◌, List, ◌≡◌, ◌<◌};
 ghost use Rattle.race_model.specs.Positions.{Board, IsPosition, pips};
 ghost use Rattle.race_model.specs.Ranks.{rank};
 ghost use Rattle.race_model.specs.Files.{mean, spread};
 ghost use Rattle.race_model.specs.LocalEquations.{whole, HasLeastMean, IsLocalAt};
+ghost use Rattle.race_model.specs.Fractions.{IsFraction, IsThousandths};
 
 /// How large recorded numbers can be where the equations hold for all positions up to a rank: a
 /// mean is at most 22 rolls from at most 58 pips, and a share is at most the whole. (This
@@ -13,4 +15,14 @@ pub fn law_bounds()
         ((z : Board) → IsPosition z → rank z ≤ rank x → HasLeastMean f z) → mean f x ≤ 22 * whole }
     ensures share { (f : List ℕ) (x : Board) (k : ℕ) → k ≤ 22 → IsPosition x →
         ((z : Board) → IsPosition z → rank z ≤ rank x → IsLocalAt f z) → spread f x k ≤ whole }
+{}
+
+/// A number is one fraction in lowest terms, and a fraction has one
+/// number of thousandths: there is no choice in what a reply prints.
+#[tactic(auto, using(crate::proofs::WhyLaws::law_fractions))]
+pub fn law_fractions()
+    ensures one { (a b n d m e : ℕ) → 0 < b → IsFraction a b n d → IsFraction a b m e →
+        (n ≡ m) × (d ≡ e) }
+    ensures thousandths { (n d q r : ℕ) → 0 < d → IsThousandths n d q → IsThousandths n d r →
+        q ≡ r }
 {}

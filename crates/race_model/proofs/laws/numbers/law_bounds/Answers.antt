@@ -5,7 +5,7 @@ use Rattle.race_model.specs.LocalEquations.{whole}
 use Rattle.race_model.proofs.Strategies.Horizons.{ends_in_22}
 use Rattle.race_model.proofs.RightFiles.Bounded.{mean_at_most}
 use Rattle.race_model.proofs.Books.Bounded.{share-in_whole}
-use Rattle.race_model.proofs.laws.bounds.law_bounds.Goals as goal
+use Rattle.race_model.proofs.laws.numbers.law_bounds.Goals as goal
 
 pub returns : goal.returns
 returns c = record {

@@ -1,7 +1,7 @@
 -- The equations of a position are about its numbers alone, and the bytes follow from the numbers.
 use Rattle.race_model.proofs.RightFiles.SameNumbers.{right_of_same, same_back, one_upgrade}
 use Rattle.race_model.proofs.Replies.Same.{same_reply_of_files}
-use Rattle.race_model.proofs.laws.upgrades.law_upgrade.Goals as goal
+use Rattle.race_model.proofs.laws.right_files.law_upgrade.Goals as goal
 
 pub returns : goal.returns
 returns c = record {

@@ -1,7 +1,7 @@
 -- The plan that plays to the result at that throw and else
 -- as recorded is least just where nothing is lost.
 use Rattle.race_model.proofs.Books.Losses.{recorded_least, loss_is_loss, begins, no_loss}
-use Rattle.race_model.proofs.laws.losses.law_loss.Goals as goal
+use Rattle.race_model.proofs.laws.books.law_loss.Goals as goal
 
 pub returns : goal.returns
 returns c = record {

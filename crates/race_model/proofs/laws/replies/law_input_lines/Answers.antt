@@ -1,7 +1,7 @@
 -- By induction on the bytes: a line feed ends a piece, and any other byte belongs to the first
 -- piece, or to the rest.
 use Rattle.race_model.proofs.Replies.InputLines.{cut_of, one_cut, feed_more, byte_more, pieces_stay}
-use Rattle.race_model.proofs.laws.input_lines.law_input_lines.Goals as goal
+use Rattle.race_model.proofs.laws.replies.law_input_lines.Goals as goal
 
 pub returns-clause-cut : goal.returns-clause-cut
 returns-clause-cut c = cut_of
