@@ -39,16 +39,6 @@ pub stays_more : {a b c : Database} {One : Type 0} → Stays a b ⊥ → Stays b
 stays_more first second fine =
     stays_then first (λ no. no) (stays_as second (λ no. absurd no) fine)
 
--- two calls, by what is known of the count of failures where the bytes are told
-pub stays_by : {a b c : Database} {One Two Failed : Type 0} → Stays a b One → Stays b c Two
-    → WhereTold a.told (λ _. RoseWhere Failed a.failures c.failures) → Stays a c Failed
-stays_by one two cause = record {
-  told = two.told ∙ one.told;
-  bound = two.bound ∙ one.bound;
-  version = two.version ∙ one.version;
-  cause = cause;
-}
-
 -- a call by what it leaves of the database that is seen
 pub stays_seen : {old seen new : Database} {Failed : Type 0} → seen ≡ old
     → new.told ≡ seen.told → new.bound ≡ seen.bound → new.version ≡ seen.version

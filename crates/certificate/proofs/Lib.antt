@@ -1,15 +1,12 @@
 pub mod RecordBytes
-pub mod PlayTests
 pub mod Accepted
 pub mod Lower
 pub mod PlayNumbers
 pub mod PlaySums
 pub mod KeptMeans
-pub mod NumberTests
 pub mod RecordTests
+pub mod NumberTests
 pub mod FileTests
 pub mod Upgrades
 pub mod Databases
 pub mod BoardNumberTests
-pub mod BoardPositionTests
-pub mod BoardRecordTests

@@ -18,7 +18,7 @@ use Rattle.race_model.proofs.Dice.RollSums.{sum_by-weight}
 use Rattle.race_model.proofs.Numbers.Members.{all_of_members}
 use Rattle.race_model.proofs.Plays.Results.{legal_position, finished_or_not}
 use Rattle.race_model.proofs.RightFiles.Bounded.{recorded_lower}
-use Rattle.fixed_fraction.specs.Shares.{weighted_share}
+use Rattle.fixed_fraction.specs.Totals.{weighted_share}
 use Rattle.fixed_fraction.proofs.Shares.{moved_whole}
 use Rattle.certificate.specs.RecordNumbers.{shares_of}
 use Rattle.certificate.proofs.RecordBytes.{share-of_record, get_or-shares_of}

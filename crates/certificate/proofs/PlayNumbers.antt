@@ -1,16 +1,13 @@
 -- What the record of a play can hold, where each record of lower rank was accepted.
 use Rattle.std.proofs.Common.{◌≡◌, ℕ, zero, suc, ◌+◌, ◌*◌, ◌<◌, ◌≤◌, List}
-use Rattle.std.proofs.Common.{get_or, sum, ap, subst, ◌∙◌, arith}
+use Rattle.std.proofs.Common.{get_or, slice_index, sum, subst, ◌∙◌, arith}
 use Rattle.race_model.specs.Positions.{Board, IsPosition, IsFinished, checkers, pips}
-use Rattle.race_model.specs.Dice.{Throw, all_rolls, roll_at, roll_index, weight, weighted}
+use Rattle.race_model.specs.Dice.{Throw, roll_at}
 use Rattle.race_model.specs.Ranks.{rank}
-use Rattle.race_model.specs.Files.{record_at, mean_at, play, play_at, spread, spread_at}
+use Rattle.race_model.specs.Files.{book_of, record_at, mean_at, play, spread, spread_at}
 use Rattle.race_model.specs.Horizon.{most_rolls}
 use Rattle.race_model.specs.Strategies.{EndsIn}
 use Rattle.race_model.specs.LocalEquations.{recorded, whole, IsPlayed, IsLocalAt}
-use Rattle.race_model.proofs.Dice.RollSums.{roll_index-range}
-use Rattle.race_model.proofs.Dice.Throws.{roll_of_index}
-use Rattle.race_model.proofs.Numbers.Sums.{sum_by-equal}
 use Rattle.race_model.proofs.Plays.Results.{legal_position, legal_pips}
 use Rattle.race_model.proofs.Strategies.Horizons.{ends_in_22, ends_in_most}
 use Rattle.race_model.proofs.RightFiles.Bounded.{recorded_lower, mean_at_most}
@@ -18,6 +15,7 @@ use Rattle.fixed_fraction.specs.Totals.{Totals}
 use Rattle.certificate.specs.RecordNumbers.{shares_of, AreTotalsAt}
 use Rattle.certificate.specs.PlaySums.{AreTotalsOf, IsAccepted}
 use Rattle.certificate.proofs.RecordBytes.{mean-of_record}
+use Rattle.certificate.proofs.RecordTests.{sum-is}
 use Rattle.certificate.proofs.Lower.{count_of-beyond, count_of-before, throw_takes, shares_whole}
 
 module _ (f : List ℕ) (x : Board) (at : IsPosition x) (short : pips x ≤ 58)
@@ -79,21 +77,10 @@ module _ (f : List ℕ) (x : Board) (at : IsPosition x) (short : pips x ≤ 58)
 pub sums-are : (f : List ℕ) (x : Board) (recorded : List ℕ) (sums : Totals) → ¬ IsFinished x
     → ((i : ℕ) → i < 21 → get_or recorded i 0 ≡ play f x (roll_at i))
     → AreTotalsOf f recorded sums → AreTotalsAt f x sums
-sums-are f x recorded sums unfinished read are = record {
-  unfinished = unfinished;
-  means = are.means ∙ weighted-same (mean_at f);
-  each = λ k few. are.each k few ∙ weighted-same (λ r. spread_at f r k);
-}
-  where
-    read-by_index : (v : Throw) → get_or recorded (roll_index v) 0 ≡ play f x v
-    read-by_index v =
-        let i = roll_index v in
-        read i (roll_index-range v)
-        ∙ ap (play_at f (rank x)) (roll_of_index i (roll_index-range v)).1
-
-    weighted-same : (g : ℕ → ℕ) → weighted (λ v. g (get_or recorded (roll_index v) 0))
-        ≡ weighted (λ v. g (play f x v))
-    weighted-same g =
-        sum_by-equal (λ v. weight v * g (get_or recorded (roll_index v) 0))
-        (λ v. weight v * g (play f x v)) all_rolls
-        (λ v. ap (λ r. weight v * g r) (read-by_index v))
+sums-are f x recorded sums unfinished read are =
+    let same = sum-is (book_of f) x (slice_index recorded) read in
+    record {
+      unfinished = unfinished;
+      means = are.means ∙ same (mean_at f);
+      each = λ k few. are.each k few ∙ same (λ r. spread_at f r k);
+    }

@@ -6,12 +6,7 @@ use Rattle.race_model.specs.LocalEquations.{IsLocalDatabase}
 use Rattle.db_layout.specs.declared.header.Header.{Header}
 use Rattle.db_reader.specs.Telling.{WhereTold}
 
--- the pip bound of an accepted header
-abbrev pub bound_in : Option Header → ℕ
-bound_in None = 0
-bound_in (Some header) = header.bound
-
--- .. and its version
+-- the version of an accepted header
 abbrev pub version_in : Option Header → Version
 version_in None = full
 version_in (Some header) = version_by header.version

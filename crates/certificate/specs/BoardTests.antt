@@ -1,13 +1,15 @@
 -- What is tested of the record of a position, by what its plays lead to.
 use Rattle.std.specs.Prelude.{◌≡◌, ℕ, ◌+◌, ◌-◌, ◌*◌, ◌^◌, ◌<◌, List}
-use Rattle.race_model.specs.Positions.{Board}
+use Rattle.race_model.specs.Positions.{Board, IsPosition, pips}
+use Rattle.race_model.specs.Ranks.{rank}
 use Rattle.race_model.specs.Dice.{roll_at, roll_index, weighted}
-use Rattle.race_model.specs.Books.{IsPlayedIn}
+use Rattle.race_model.specs.Books.{IsPlayedIn, play_in}
 use Rattle.race_model.specs.LocalEquations.{IsBestIn, HasMeanIn}
 use Rattle.race_model.specs.Endings.{HasCountIn}
-use Rattle.race_model.specs.BoardFiles.{board_book, count_at, mean_parts, count_parts, value_of_parts}
+use Rattle.race_model.specs.BoardFiles.{board_book, board_record, count_at, mean_parts, count_parts, value_of_parts}
 use Rattle.race_model.specs.WrittenNumbers.{IsMeanWritten, IsCountWritten}
-use Rattle.db_layout.specs.LowerRecords.{board_mean}
+use Rattle.db_layout.specs.BoardRecords.{Stored}
+use Rattle.db_layout.specs.LowerRecords.{Lower, AreLocalTo, board_mean}
 
 -- what is recorded for a roll is a result, and the least
 abbrev pub Holds : List ℕ → Board → ℕ → Type 0
@@ -33,3 +35,14 @@ MeanHolds f x = IsMeanWritten f x × HasMeanIn (board_book f) x
 -- .. and so for its count of k throws
 abbrev pub CountHolds : List ℕ → Board → ℕ → Type 0
 CountHolds f x k = IsCountWritten f x k × HasCountIn (board_book f) (count_at f) x k
+
+-- the record of the position of the next rank, whose plays are read and hold, where each record of
+-- lower rank was accepted
+pub record IsTested (lower : Lower) (x : Board) (stored : Stored) (plays : ℕ → ℕ) : Type 0 where
+  pub position : IsPosition x
+  pub next : rank x ≡ lower.count
+  pub pips_are : stored.pips ≡ pips x
+  pub bytes : stored.bytes ≡ board_record lower.bytes (rank x)
+  pub read : (i : ℕ) → i < 21 → plays i ≡ play_in (board_book lower.bytes) x (roll_at i)
+  pub held : (i : ℕ) → i < 21 → Holds lower.bytes x i
+  pub local : AreLocalTo lower.bytes lower.count

@@ -9,4 +9,3 @@ pub mod Upgrades
 pub mod Databases
 pub mod PlaySums
 pub mod BoardTests
-pub mod BoardFaults

@@ -5,7 +5,7 @@ use Rattle.std.specs.Prelude.{Option, Some, None}
 use Rattle.std.specs.List.{range_with_len}
 use Rattle.race_model.specs.Positions.{Board, IsFinished}
 use Rattle.race_model.specs.Dice.{Throw, weighted}
-use Rattle.race_model.specs.Files.{mean_of, play_of, share_of, mean_at, spread_at, play}
+use Rattle.race_model.specs.Files.{play_of, share_of, mean_at, spread_at, play}
 use Rattle.race_model.specs.LocalEquations.{whole}
 use Rattle.fixed_fraction.specs.Totals.{Totals}
 
@@ -30,17 +30,13 @@ IsShareOf share None (suc k) = share (suc k) ≡ 0
 IsShareOf share (Some sums) zero = share 0 ≡ 0
 IsShareOf share (Some sums) (suc k) = 36 * share (suc k) ≡ slice_index sums.shares k
 
--- the mean and each share in the bytes of a record are those of these sums
-pub record HasNumbers (bytes : List ℕ) (sums : Option Totals) : Type 0 where
-  pub mean : IsMeanOf (mean_of bytes) sums
-  pub shares : (k : ℕ) → k ≤ 22 → IsShareOf (share_of bytes) sums k
-
--- the mean is, and of the shares that of exactly k rolls is the first that isn't
-pub record IsFirstWrong (bytes : List ℕ) (sums : Option Totals) (k : ℕ) : Type 0 where
-  pub few : k ≤ 22
-  pub mean : IsMeanOf (mean_of bytes) sums
-  pub earlier : (j : ℕ) → j < k → IsShareOf (share_of bytes) sums j
-  pub wrong : ¬ IsShareOf (share_of bytes) sums k
+-- the mean of a record is right, and of its shares to so many rolls that of exactly k is the first
+-- that isn't
+pub record IsFirstWrong (mean : Type 0) (share : ℕ → Type 0) (most k : ℕ) : Type 0 where
+  pub few : k ≤ most
+  pub mean_is : mean
+  pub earlier : (j : ℕ) → j < k → share j
+  pub wrong : ¬ share k
 
 -- the mean of the position that a throw is recorded to lead to
 abbrev pub recorded_mean : List ℕ → Board → Throw → ℕ

@@ -10,7 +10,7 @@ ghost use Rattle.race_model.specs.BoardEquations.{IsLocalOnBoard, IsLocalBoard};
 ghost use Rattle.least_plays.specs.Known.{Knows};
 ghost use Rattle.db_layout.specs.LowerRecords.{board_mean};
 ghost use Rattle.certificate.specs.CheckFaults.{IsFirstOnBoard};
-ghost use Rattle.certificate.specs.BoardFaults.{IsFirstFaultOnBoardAt};
+ghost use Rattle.certificate.specs.RecordFaults.{IsFirstFaultOnBoardAt};
 
 use crate::board_numbers::{check_numbers, plays_in};
 use crate::check_fault::{CheckFault, RecordFault, fault_at, of_refused};
@@ -120,6 +120,7 @@ fn check_record(
     ensures first { rank < count_to (bound_of lower.now.bytes) →
         IfErr result (IsFirstFaultOnBoardAt lower.now.bytes rank) }
 {
+    let _count = lower.count();
     let position = ranks.unrank(rank).unwrap();
     let best = plays.advance(ranks, &position, lower);
     let recorded = plays_in(stored);

@@ -1,13 +1,12 @@
 //! The mean and the counts of a record, tested by what its plays lead to.
 ghost use Rattle.std.specs.Prelude.{◌≡◌, ℕ, ◌+◌, ◌<◌, ◌≤◌, ◌↔◌, List, slice_index, IsTrue, IfSome, IfNone, IfErr, OnOk};
-ghost use Rattle.race_model.specs.Positions.{IsPosition, IsFinished, pips};
-ghost use Rattle.race_model.specs.Ranks.{rank as rank_of};
+ghost use Rattle.race_model.specs.Positions.{IsPosition, IsFinished};
 ghost use Rattle.race_model.specs.Horizon.{most_rolls};
-ghost use Rattle.race_model.specs.BoardFiles.{board_record, board_play_of};
+ghost use Rattle.race_model.specs.BoardFiles.{board_play_of};
 ghost use Rattle.db_layout.specs.LowerRecords.{AreBelow, AreResults};
 ghost use Rattle.db_layout.specs.BoardWords.{AreWordSums};
-ghost use Rattle.certificate.specs.BoardTests.{IsBoardMeanOf, IsCountOf, Holds, MeanHolds, CountHolds};
-ghost use Rattle.certificate.specs.BoardFaults.{IsNumberFaultOnBoard};
+ghost use Rattle.certificate.specs.BoardTests.{IsBoardMeanOf, IsCountOf, IsTested, MeanHolds, CountHolds};
+ghost use Rattle.certificate.specs.RecordFaults.{IsNumberFault};
 
 use crate::check_fault::RecordFault;
 use db_layout::{
@@ -112,18 +111,12 @@ pub fn check_numbers(
     position: &Position,
     plays: &[u16; 21],
 ) -> Result<(), RecordFault>
-    requires position { IsPosition position.now }
-    requires next { rank_of position.now ≡ lower.now.count }
-    requires pips { stored.now.pips ≡ pips position.now }
-    requires bytes { stored.now.bytes ≡ board_record lower.now.bytes (rank_of position.now) }
-    requires plays { (i : ℕ) → i < 21 →
-        slice_index plays.now i ≡ board_play_of stored.now.bytes i }
-    requires held { (i : ℕ) → i < 21 → Holds lower.now.bytes position.now i }
+    requires { IsTested lower.now position.now stored.now (slice_index plays.now) }
     ensures mean { OnOk result (MeanHolds lower.now.bytes position.now) }
     ensures counts { OnOk result ((k : ℕ) → k ≤ 33 → CountHolds lower.now.bytes position.now k) }
-    ensures fault { IfErr result (IsNumberFaultOnBoard lower.now.bytes position.now) }
+    ensures fault { IfErr result (IsNumberFault (MeanHolds lower.now.bytes position.now)
+        (CountHolds lower.now.bytes position.now) 33) }
 {
-    let _count = lower.count();
     if position.is_finished() {
         if are_equal(&stored.mean(), &Parts { upper: 0, lower: 0 }) {
             return Ok(());

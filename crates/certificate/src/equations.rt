@@ -2,7 +2,7 @@
 //! for the rolls.
 ghost use Rattle.std.specs.Prelude.{◌≡◌, ℕ, ◌<◌, ◌≤◌, ◌↔◌, IsTrue, IfSome, IfNone, IfErr, OnOk};
 ghost use Rattle.race_model.specs.Files.{mean_of, share_of};
-ghost use Rattle.certificate.specs.RecordNumbers.{IsMeanOf, IsShareOf, HasNumbers};
+ghost use Rattle.certificate.specs.RecordNumbers.{IsMeanOf, IsShareOf};
 ghost use Rattle.certificate.specs.RecordFaults.{IsNumberFault};
 
 use crate::check_fault::RecordFault;
@@ -13,8 +13,11 @@ use fixed_fraction::{Sums, WHOLE};
 /// finished position: the mean, and then the shares by their number of rolls.
 #[inline(always)]
 pub fn check_numbers(view: &RecordView<'_>, sums: &Option<Sums>) -> Result<(), RecordFault>
-    ensures right { OnOk result (HasNumbers view.now sums.now) }
-    ensures fault { IfErr result (IsNumberFault view.now sums.now) }
+    ensures mean { OnOk result (IsMeanOf (mean_of view.now) sums.now) }
+    ensures shares { OnOk result
+        ((k : ℕ) → k ≤ 22 → IsShareOf (share_of view.now) sums.now k) }
+    ensures fault { IfErr result (IsNumberFault (IsMeanOf (mean_of view.now) sums.now)
+        (IsShareOf (share_of view.now) sums.now) 22) }
 {
     if !has_mean(view, sums) {
         return Err(RecordFault::Mean);

@@ -1,7 +1,7 @@
 -- The equations hold exactly where the file is right.
 use Rattle.std.proofs.Common.{refl}
 use Rattle.std.proofs.lemmas.Bool.{false≢true}
-use Rattle.certificate.proofs.BoardRecordTests.{none-of_local}
+use Rattle.certificate.proofs.FileTests.{none-of_local}
 use Rattle.certificate.proofs.board_checker.check_board.Goals as goal
 
 pub returns-in-Ok-check_records-clause-right : goal.returns-in-Ok-check_records-clause-right

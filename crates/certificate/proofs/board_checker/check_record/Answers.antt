@@ -1,22 +1,23 @@
 -- The tests of one record.
-use Rattle.std.proofs.Common.{◌≡◌, ℕ, ◌<◌, slice_index, refl, sym, ap, subst, ◌∙◌}
-use Rattle.race_model.specs.Positions.{pips}
+use Rattle.std.proofs.Common.{◌≡◌, ◌↔◌, ℕ, ◌<◌, ◌≤◌, slice_index, refl, sym, ap, subst, ◌∙◌}
+use Rattle.race_model.specs.Positions.{Board, IsPosition, pips}
 use Rattle.race_model.specs.Ranks.{rank, at_rank}
 use Rattle.race_model.specs.Dice.{roll_at}
-use Rattle.race_model.specs.Books.{play_in}
 use Rattle.race_model.specs.BoardFiles.{board_book, board_record, board_play_of}
-use Rattle.race_model.specs.BoardEquations.{IsLocalOnBoard}
+use Rattle.race_model.specs.BoardEquations.{HoldsOnBoard, IsLocalOnBoard}
+use Rattle.race_model.specs.FirstFault.{spread_test}
+use Rattle.race_model.specs.Books.{play_in, whole_in}
+use Rattle.race_model.proofs.Books.Boards.{board_share_is_count, local_of_counts}
 use Rattle.race_model.proofs.Dice.Throws.{roll_of_index}
-use Rattle.certificate.specs.BoardTests.{Holds}
-use Rattle.certificate.specs.BoardFaults.{IsNumberFaultOnBoard, IsFirstFaultOnBoardAt}
-use Rattle.certificate.proofs.BoardRecordTests.{first-refused, first-number, local-at}
+use Rattle.certificate.specs.BoardTests.{MeanHolds, CountHolds}
+use Rattle.certificate.specs.RecordFaults.{IsFirstFaultOnBoardAt, IsNumberFault}
+use Rattle.certificate.proofs.RecordTests.{ArePlays, plays-hold, least-mean, first-refused, first-number}
 use Rattle.db_layout.specs.LowerRecords.{board_mean}
-use Rattle.least_plays.specs.Recorded.{IsLeastPlay, IsFirstRefusedIn}
-use Rattle.least_plays.proofs.RecordedPlays.{held, first-in_book}
-use Rattle.certificate.proofs.board_checker.check_record.Goals.{After-unwrap-position, After-plays_in-recorded}
+use Rattle.least_plays.specs.Recorded.{IsLeastPlay}
+use Rattle.certificate.proofs.board_checker.check_record.Goals.{After-plays_in-recorded}
 use Rattle.certificate.proofs.board_checker.check_record.Goals as goal
 
-module _ (c : After-unwrap-position) where
+module _ (c : After-plays_in-recorded) where
   -- the position is that of the rank
   same : c.unwrap-position.result ≡ at_rank c.args.rank
   same = rw c.unwrap-position.ensures at c.unrank.ensures.value
@@ -24,76 +25,80 @@ module _ (c : After-unwrap-position) where
   ranked : rank c.unwrap-position.result ≡ c.args.rank
   ranked = rw c.unwrap-position.ensures at c.unrank.ensures.ranked
 
--- what the record says of the rolls
-recorded : (c : After-plays_in-recorded) → (i : ℕ) → i < 21 →
-    slice_index c.plays_in-recorded.result i
-    ≡ play_in (board_book c.args.lower.now.bytes) c.unwrap-position.result (roll_at i)
-recorded c i lt =
-    let ranked : rank c.unwrap-position.result ≡ c.args.rank =
-    rw c.unwrap-position.ensures at c.unrank.ensures.ranked in
-    c.plays_in-recorded.ensures i lt
-    ∙ ap (λ bytes. board_play_of bytes i) c.requires.bytes
-    ∙ ap (λ r. board_play_of (board_record c.args.lower.now.bytes r) i) (sym ranked)
-    ∙ ap (board_play_of (board_record c.args.lower.now.bytes (rank c.unwrap-position.result)))
-    (sym (roll_of_index i lt).1)
+  at : IsPosition c.unwrap-position.result
+  at = rw c.unwrap-position.ensures at c.unrank.ensures.position
 
--- what the tests of the plays tell of the book
-held-here : (c : After-plays_in-recorded) →
-    ((i : ℕ) → i < 21 → IsLeastPlay (board_mean c.args.lower.now.bytes) c.unwrap-position.result
-    (roll_at i) (slice_index c.plays_in-recorded.result i)) →
-    (i : ℕ) → i < 21 → Holds c.args.lower.now.bytes c.unwrap-position.result i
-held-here c least i lt =
-    held c.unwrap-position.result (rw c.unwrap-position.ensures at c.unrank.ensures.position)
-    (roll_at i) (board_book c.args.lower.now.bytes) (board_mean c.args.lower.now.bytes)
-    (λ _ z legal. refl) (slice_index c.plays_in-recorded.result i) (recorded c i lt) (least i lt)
+  -- what the record says of the rolls
+  read : (i : ℕ) → i < 21 → slice_index c.plays_in-recorded.result i
+      ≡ play_in (board_book c.args.lower.now.bytes) c.unwrap-position.result (roll_at i)
+  read i lt =
+      c.plays_in-recorded.ensures i lt
+      ∙ ap (λ bytes. board_play_of bytes i) c.requires.bytes
+      ∙ ap (λ r. board_play_of (board_record c.args.lower.now.bytes r) i) (sym ranked)
+      ∙ ap (board_play_of (board_record c.args.lower.now.bytes (rank c.unwrap-position.result)))
+      (sym (roll_of_index i lt).1)
+
+  -- what the tests of the plays tell of the book
+  held-here : ((i : ℕ) → i < 21 → IsLeastPlay (board_mean c.args.lower.now.bytes)
+      c.unwrap-position.result (roll_at i) (slice_index c.plays_in-recorded.result i)) →
+      ArePlays (board_book c.args.lower.now.bytes) c.unwrap-position.result
+  held-here =
+      plays-hold (board_book c.args.lower.now.bytes) c.unwrap-position.result
+      (slice_index c.plays_in-recorded.result) read at (board_mean c.args.lower.now.bytes)
+      (λ _ v z legal. refl)
 
 pub returns-in-Err-clause-first : goal.returns-in-Err-clause-first
 returns-in-Err-clause-first c lt =
     let here = (goal.at.returns-in-Err-clause-first c).After-plays_in-recorded in
-    let position = (goal.at.returns-in-Err-clause-first c).After-unwrap-position in
     let f = c.args.lower.now.bytes in
-    let first =
-    first-in_book c.unwrap-position.result
-    (rw c.unwrap-position.ensures at c.unrank.ensures.position) (board_book f) (board_mean f)
-    (λ _ v z legal. refl) (slice_index c.plays_in-recorded.result) (recorded here)
-    c.in-Err.refused (c.in-Err.ensures {u = tt}).fault in
     subst (IsFirstFaultOnBoardAt f c.args.rank) (sym c.of_refused.ensures)
-    (first-refused f c.args.rank lt c.in-Err.refused
-    (subst (λ x. IsFirstRefusedIn (board_book f) x c.in-Err.refused) (same position) first))
+    (first-refused (board_book f) c.unwrap-position.result
+    (slice_index c.plays_in-recorded.result) (read here) (at here) (board_mean f)
+    (λ _ v z legal. refl) (HoldsOnBoard f) ⊥ c.args.rank lt (same here) (λ i. (λ h. h, λ h. h))
+    (λ i. (λ h. h, λ h. h)) c.in-Err.refused (c.in-Err.ensures {u = tt}).fault)
 
 -- the plays hold where their tests are passed
-pub check_numbers-requires-clause-held : goal.check_numbers-requires-clause-held
-check_numbers-requires-clause-held c i lt =
-    let here = (goal.at.check_numbers-requires-clause-held c).After-plays_in-recorded in
-    held-here here ((c.in_default.ensures {u = tt}).least) i lt
-
-pub check_numbers-requires-clause-pips : goal.check_numbers-requires-clause-pips
-check_numbers-requires-clause-pips c =
-    let here = (goal.at.check_numbers-requires-clause-pips c).After-unwrap-position in
-    c.requires.pips ∙ ap pips (sym (same here))
-
-pub check_numbers-requires-clause-bytes : goal.check_numbers-requires-clause-bytes
-check_numbers-requires-clause-bytes c =
-    let here = (goal.at.check_numbers-requires-clause-bytes c).After-unwrap-position in
-    c.requires.bytes ∙ ap (board_record c.args.lower.now.bytes) (sym (ranked here))
+pub check_numbers-requires : goal.check_numbers-requires
+check_numbers-requires c =
+    let here = (goal.at.check_numbers-requires c).After-plays_in-recorded in
+    let f = c.args.lower.now.bytes in
+    record {
+      position = at here;
+      next = ranked here ∙ c.requires.rank;
+      pips_are = c.requires.pips ∙ ap pips (sym (same here));
+      bytes = c.requires.bytes ∙ ap (board_record f) (sym (ranked here));
+      read = read here;
+      held = held-here here (c.in_default.ensures {u = tt}).least;
+      local = c.count-count.ensures.local;
+    }
 
 pub returns-in-Ok-clause-local : goal.returns-in-Ok-clause-local
 returns-in-Ok-clause-local c =
-    let here = (goal.at.returns-in-Ok-clause-local c).After-unwrap-position in
+    let here = (goal.at.returns-in-Ok-clause-local c).After-plays_in-recorded in
+    let f = c.args.lower.now.bytes in
     let said = c.in-Ok.ensures {u = tt} in
-    subst (IsLocalOnBoard c.args.lower.now.bytes) (same here)
-    (local-at c.args.lower.now.bytes c.unwrap-position.result
-    (held-here (goal.at.returns-in-Ok-clause-local c).After-plays_in-recorded
-    (c.in_default.ensures {u = tt}).least) said.mean said.counts)
+    subst (IsLocalOnBoard f) (same here)
+    (local_of_counts f c.unwrap-position.result
+    (record { mean = said.mean.0; counts = λ k le. (said.counts k le).0 })
+    (least-mean (board_book f) (whole_in (board_book f)) c.unwrap-position.result
+    (held-here here (c.in_default.ensures {u = tt}).least) said.mean.1)
+    (λ k le. (said.counts k le).1))
 
 pub returns-in-Err-check_numbers-clause-first : goal.returns-in-Err-check_numbers-clause-first
 returns-in-Err-check_numbers-clause-first c lt =
-    let here = (goal.at.returns-in-Err-check_numbers-clause-first c).After-unwrap-position in
+    let here = (goal.at.returns-in-Err-check_numbers-clause-first c).After-plays_in-recorded in
     let f = c.args.lower.now.bytes in
-    first-number f c.args.rank lt
-    (subst (λ x. (i : ℕ) → i < 21 → Holds f x i) (same here)
-    (held-here (goal.at.returns-in-Err-check_numbers-clause-first c).After-plays_in-recorded
-    (c.in_default.ensures {u = tt}).least))
-    c.in-Err-check_numbers.fault
-    (subst (λ x. IsNumberFaultOnBoard f x c.in-Err-check_numbers.fault) (same here)
-    (c.in-Err-check_numbers.ensures {u = tt}).fault)
+    let x = at_rank c.args.rank in
+    first-number (board_book f) (HoldsOnBoard f) ⊥ c.args.rank lt
+    (subst (ArePlays (board_book f)) (same here)
+    (held-here here (c.in_default.ensures {u = tt}).least))
+    (MeanHolds f x) (CountHolds f x) (λ h. h, λ h. h) asked c.in-Err-check_numbers.fault
+    (subst (λ (y : Board). IsNumberFault (MeanHolds f y) (CountHolds f y) 33
+    c.in-Err-check_numbers.fault) (same here) (c.in-Err-check_numbers.ensures {u = tt}).fault)
+  where
+    -- what is tested of a count is asked of it: the equation of shares is that of counts
+    asked : (k : ℕ) → k ≤ 33 → CountHolds c.args.lower.now.bytes (at_rank c.args.rank) k
+        ↔ HoldsOnBoard c.args.lower.now.bytes (spread_test c.args.rank k)
+    asked k few =
+        let same = board_share_is_count c.args.lower.now.bytes (at_rank c.args.rank) k few in
+        (λ counted. (counted.0, same.1 counted.1), λ holds. (holds.0, same.0 holds.1))

@@ -6,17 +6,17 @@ use Rattle.std.proofs.Math.Facts.{Fits-of_lt}
 use Rattle.race_model.specs.Positions.{pips}
 use Rattle.race_model.specs.Ranks.{at_rank, count_to}
 use Rattle.race_model.specs.Files.{bound_of}
-use Rattle.race_model.specs.BoardFiles.{board_place, board_length}
-use Rattle.race_model.specs.BoardEquations.{IsLocalOnBoard}
+use Rattle.race_model.specs.BoardFiles.{board_book, board_place, board_length, IsBoardFile}
+use Rattle.race_model.specs.BoardEquations.{HoldsOnBoard, IsLocalOnBoard}
+use Rattle.race_model.specs.Headers.{IsFirstBoardHeaderFault}
 use Rattle.race_model.proofs.Numbers.Members.{set_next}
 use Rattle.race_model.proofs.Ranks.PositionTotals.{count_to-most}
 use Rattle.db_layout.proofs.BoardPlaces.{board_place-most, board_place-rises}
 use Rattle.least_plays.specs.Known.{Knows}
 use Rattle.db_layout.specs.LowerRecords.{AreRecords, AreLocalTo, board_mean, leading_at}
 use Rattle.certificate.specs.CheckFaults.{IsFirstOnBoard}
-use Rattle.certificate.specs.BoardFaults.{IsFirstFaultOnBoardAt}
-use Rattle.certificate.proofs.FileTests.{accepted-more}
-use Rattle.certificate.proofs.BoardRecordTests.{fault-of_file, local-of_all}
+use Rattle.certificate.specs.RecordFaults.{IsFirstFaultOnBoardAt}
+use Rattle.certificate.proofs.FileTests.{accepted-more, board-answers, board-of_all, fault-of_file}
 use Rattle.certificate.proofs.board_checker.check_records.Goals.{After-from-count}
 use Rattle.certificate.proofs.board_checker.check_records.Goals as goal
 
@@ -145,8 +145,10 @@ returns-in-Err-clause-first c =
       ap (λ f. count_to (bound_of f)) bytes,
     )) in
     subst (IsFirstOnBoard c.args.bytes.now) (sym c.fault_at.ensures)
-    (fault-of_file c.args.bytes.now c.loop-rank.rank c.in-Err.fault c.requires.file
-    c.loop-rank.invariant.local
+    (fault-of_file (IsLocalOnBoard c.args.bytes.now) (board_book c.args.bytes.now)
+    (HoldsOnBoard c.args.bytes.now) (board-answers c.args.bytes.now)
+    (IsFirstBoardHeaderFault c.args.bytes.now) (IsBoardFile c.args.bytes.now) ⊥ c.requires.file
+    c.loop-rank.rank c.loop-rank.invariant.local c.in-Err.fault
     (subst (λ f. IsFirstFaultOnBoardAt f c.loop-rank.rank c.in-Err.fault) bytes said))
 
 pub overflow_cast-offsets : goal.overflow_cast-offsets
@@ -209,7 +211,7 @@ loop-rank-preserved c =
 
 pub returns-clause-local : goal.returns-clause-local
 returns-clause-local c =
-    local-of_all c.args.bytes.now c.loop-rank.rank c.requires.file
+    board-of_all c.args.bytes.now c.loop-rank.rank c.requires.file
     (omega (
       arith,
       c.loop-rank-test.false,

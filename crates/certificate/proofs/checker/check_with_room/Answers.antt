@@ -1,12 +1,15 @@
 -- The records are checked by rising rank; each is accepted or has the first fault.
-use Rattle.std.proofs.Common.{◌+◌, Err, sym, ap, subst, ◌∙◌, arith, rules}
+use Rattle.std.proofs.Common.{◌+◌, Err, length, take, sym, ap, subst, ◌∙◌, arith, rules}
 use Rattle.race_model.specs.Ranks.{count_to}
+use Rattle.race_model.specs.Files.{IsFile, book_of}
+use Rattle.race_model.specs.FirstFault.{Holds}
+use Rattle.race_model.specs.Headers.{IsFirstHeaderFault}
 use Rattle.race_model.specs.LocalEquations.{IsLocalAt}
 use Rattle.certificate.specs.CheckFaults.{IsFirst}
 use Rattle.certificate.specs.KeptMeans.{kept_mean}
 use Rattle.certificate.specs.LowerRecords.{IsLower}
 use Rattle.db_reader.proofs.Failures.{err-same, table_first, table_then, table_as, table_more}
-use Rattle.certificate.proofs.FileTests.{fault-of_file, fault-read, accepted-more, local-of_all}
+use Rattle.certificate.proofs.FileTests.{answers, fault-of_file, fault-read, accepted-more, local-of_all}
 use Rattle.certificate.proofs.checker.check_with_room.Goals as goal
 
 pub check_record-requires : goal.check_record-requires
@@ -47,7 +50,9 @@ returns-in-Err-clause-first g c file told =
     let whole = (c.requires.file file told).file in
     let first = (c.in-Err.ensures {u = tt}).first file (before.stays.told ∙ told) in
     subst (IsFirst file) (sym c.fault_at.ensures)
-    (fault-of_file file c.loop-rank.rank c.in-Err.fault whole (before.lower file told) first)
+    (fault-of_file (IsLocalAt file) (book_of file) (Holds file) (answers file)
+    (IsFirstHeaderFault (take 32 file) (length file)) (IsFile file) (Unit {0}) whole
+    c.loop-rank.rank (before.lower file told) c.in-Err.fault first)
 
 pub returns-in-Err-clause-stays : goal.returns-in-Err-clause-stays
 returns-in-Err-clause-stays g c =

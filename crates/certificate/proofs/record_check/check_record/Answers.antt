@@ -1,13 +1,14 @@
 -- The tests of the record of one rank, from its plays to its shares.
-use Rattle.std.proofs.Common.{◌≡◌, ℕ, ◌+◌, ◌<◌, ◌≤◌, List, Option, Some, slice_index, sym, ap}
+use Rattle.std.proofs.Common.{◌≡◌, ℕ, ◌+◌, ◌<◌, ◌≤◌, List, Some, slice_index, sym, ap}
 use Rattle.std.proofs.Common.{subst, ◌∙◌, arith, rules}
 use Rattle.race_model.specs.Positions.{Board, IsPosition, IsFinished, pips}
 use Rattle.race_model.specs.Ranks.{rank, count_to, at_rank}
 use Rattle.race_model.specs.Dice.{Throw, roll_at}
 use Rattle.race_model.specs.Plays.{Legal}
 use Rattle.race_model.specs.BestPlays.{IsBestPlay}
-use Rattle.race_model.specs.LocalEquations.{IsPlayed, IsBest, IsLocalAt}
-use Rattle.race_model.specs.Files.{bound_of, record_at, mean_of, mean_at, play_of, play}
+use Rattle.race_model.specs.FirstFault.{Holds}
+use Rattle.race_model.specs.LocalEquations.{IsLocalAt}
+use Rattle.race_model.specs.Files.{bound_of, record_at, mean_of, share_of, mean_at, play_of, play}
 use Rattle.race_model.proofs.Dice.Throws.{roll_of_index}
 use Rattle.race_model.proofs.Plays.Results.{legal_position, legal_pips}
 use Rattle.race_model.proofs.Plays.Spent.{legal_takes}
@@ -15,7 +16,7 @@ use Rattle.race_model.proofs.Ranks.RankOrder.{rank_bound}
 use Rattle.race_model.proofs.Ranks.BestPlays.{legal_lower}
 use Rattle.race_model.proofs.RightFiles.Right.{bound_of-most}
 use Rattle.race_model.specs.Files.{book_of}
-use Rattle.least_plays.specs.Recorded.{IsLeastPlay, IsFirstRefusedIn}
+use Rattle.least_plays.specs.Recorded.{IsLeastPlay}
 use Rattle.least_plays.specs.declared.recorded.PlayFault.{PlayFault}
 use Rattle.least_plays.specs.declared.recorded.PlayFault.TheVariants.{NotLegal, NotLeast}
 use Rattle.certificate.specs.declared.check_fault.RecordFault.{RecordFault}
@@ -27,13 +28,13 @@ use Rattle.db_reader.specs.Reads.{HasRecord}
 use Rattle.db_reader.proofs.Failures.{rose_as, table_as, table_more, err-same}
 use Rattle.std.proofs.lemmas.Bool.{false≢true}
 use Rattle.certificate.specs.KeptMeans.{kept_mean}
-use Rattle.fixed_fraction.specs.Totals.{Totals}
 use Rattle.certificate.specs.RecordFaults.{IsFirstFaultAt, IsNumberFault, of_refused}
+use Rattle.certificate.specs.RecordNumbers.{IsMeanOf, IsShareOf, AreSumsOf}
 use Rattle.certificate.proofs.Accepted.{play-of_lent}
 use Rattle.certificate.proofs.RecordBytes.{mean-of_record, get_or-plays_of}
 use Rattle.certificate.proofs.KeptMeans.{accepted-mean_more}
-use Rattle.certificate.proofs.PlayTests.{held-in_file, first-in_file}
-use Rattle.certificate.proofs.RecordTests.{IsSummed, first-refused, first-wrong, right-numbers}
+use Rattle.certificate.proofs.NumberTests.{first-wrong, right-numbers}
+use Rattle.certificate.proofs.RecordTests.{ArePlays, plays-hold, first-refused}
 use Rattle.certificate.proofs.record_check.check_record.Given.{Over}
 use Rattle.certificate.proofs.record_check.check_record.Goals.{After-lend-view, After-unwrap-position}
 use Rattle.certificate.proofs.record_check.check_record.Goals.{After-plays_in-recorded}
@@ -108,18 +109,16 @@ kept-is g c file told unfinished v z legal =
     ∙ c.requires.kept.means_are file told (rank z) (omega (arith, ranked)) (omega arith)
 
 -- what the tests of the plays tell of the file
-plays-hold : (g : Over) (c : After-plays_in-recorded g) (file : List ℕ)
+held-here : (g : Over) (c : After-plays_in-recorded g) (file : List ℕ)
     → g.T.Table.tells c.args.table.now ≡ Some file
     → ((i : ℕ) → i < 21 → IsLeastPlay (kept_mean g.row.ROOM c.best_plays-best.new.self.means)
     c.unwrap-position.result (roll_at i) (slice_index c.plays_in-recorded.result i))
-    → (i : ℕ) → i < 21 → IsPlayed file c.unwrap-position.result (roll_at i)
-    × IsBest file c.unwrap-position.result (roll_at i)
-plays-hold g c file told =
-    held-in_file file c.unwrap-position.result
-    (rw c.unwrap-position.ensures at c.unrank.ensures.position)
-    (kept_mean g.row.ROOM c.best_plays-best.new.self.means)
-    (slice_index c.plays_in-recorded.result) (kept-is g c file told)
+    → ArePlays (book_of file) c.unwrap-position.result
+held-here g c file told =
+    plays-hold (book_of file) c.unwrap-position.result (slice_index c.plays_in-recorded.result)
     (recorded_at g c file ((c.in_default.ensures {u = tt}).stays ∙ told))
+    (rw c.unwrap-position.ensures at c.unrank.ensures.position)
+    (kept_mean g.row.ROOM c.best_plays-best.new.self.means) (kept-is g c file told)
 
 pub check_plays-requires-clause-next : goal.check_plays-requires-clause-next
 check_plays-requires-clause-next g c =
@@ -139,7 +138,7 @@ sum_plays-requires-clause-recorded g c file told =
 
 pub sum_plays-requires-clause-played : goal.sum_plays-requires-clause-played
 sum_plays-requires-clause-played g c file told i lt =
-    (plays-hold g (goal.at.sum_plays-requires-clause-played g c).After-plays_in-recorded file
+    (held-here g (goal.at.sum_plays-requires-clause-played g c).After-plays_in-recorded file
     (sym (c.in_default.ensures {u = tt}).stays ∙ told)
     (c.in_default-check_plays.ensures {u = tt}).least i lt).0
 
@@ -175,17 +174,14 @@ returns-in-Err-check_plays-clause-first g c file told =
       c.args.header.counted,
       count,
     ) in
-    let refused = c.in-Err-check_plays.refused in
-    let first =
-    first-in_file file c.unwrap-position.result
-    (rw c.unwrap-position.ensures at c.unrank.ensures.position)
-    (kept_mean g.row.ROOM c.best_plays-best.new.self.means)
-    (slice_index c.plays_in-recorded.result) (kept-is g here file told)
-    (recorded_at g here file ((c.in_default.ensures {u = tt}).stays ∙ told)) refused
-    (c.in-Err-check_plays.ensures {u = tt}).fault in
     subst (IsFirstFaultAt file c.args.rank) (sym c.of_refused.ensures)
-    (first-refused file c.args.rank lt refused
-    (subst (λ (x : Board). IsFirstRefusedIn (book_of file) x refused) same first))
+    (first-refused (book_of file) c.unwrap-position.result
+    (slice_index c.plays_in-recorded.result)
+    (recorded_at g here file ((c.in_default.ensures {u = tt}).stays ∙ told))
+    (rw c.unwrap-position.ensures at c.unrank.ensures.position)
+    (kept_mean g.row.ROOM c.best_plays-best.new.self.means) (kept-is g here file told) (Holds file)
+    (Unit {0}) c.args.rank lt same (λ i. (λ h. h, λ h. h)) (λ i. (λ h. h, λ h. h))
+    c.in-Err-check_plays.refused (c.in-Err-check_plays.ensures {u = tt}).fault)
 
 -- a refused play is no failed read
 play-unread : (roll : ℕ) (fault : PlayFault) → of_refused roll fault ≡ ReadRecord → ⊥
@@ -224,18 +220,16 @@ module _ (g : Over) (c : After-lend-view g) (file : List ℕ)
       c.lend-view.ensures file
       ((c.in-Ok.ensures {u = tt}).stays.told ∙ ((c.in_default.ensures {u = tt}).stays ∙ told))
 
-  -- its plays hold, and the sums are theirs
-  summed : ((i : ℕ) → i < 21 → IsPlayed file c.unwrap-position.result (roll_at i)
-      × IsBest file c.unwrap-position.result (roll_at i)) → IsSummed file (at_rank c.args.rank)
-      c.in-Ok.sums
-  summed held =
-      let now = (c.in_default.ensures {u = tt}).stays ∙ told in
-      let here : IsSummed file c.unwrap-position.result c.in-Ok.sums =
-      record {
-        held = held;
-        are = (c.in-Ok.ensures {u = tt}).totals file now;
-      } in
-      subst (λ (x : Board). IsSummed file x c.in-Ok.sums) position-is here
+  -- its plays hold
+  plays-here : ArePlays (book_of file) c.unwrap-position.result
+      → ArePlays (book_of file) (at_rank c.args.rank)
+  plays-here = subst (ArePlays (book_of file)) position-is
+
+  -- the sums are those of its plays
+  summed : AreSumsOf file (at_rank c.args.rank) c.in-Ok.sums
+  summed =
+      subst (λ (x : Board). AreSumsOf file x c.in-Ok.sums) position-is
+      ((c.in-Ok.ensures {u = tt}).totals file ((c.in_default.ensures {u = tt}).stays ∙ told))
 
 -- no read failed where the numbers of the record are tested
 unread : (g : Over) (c : After-lend-view g) →
@@ -250,29 +244,29 @@ unread g c =
     table_more first (c.in-Ok.ensures {u = tt}).stays (λ no. cc)
 
 -- a fault of the numbers is no failed read
-number-read : (bytes : List ℕ) (sums : Option Totals) (fault : RecordFault) →
-    IsNumberFault bytes sums fault → fault ≡ ReadRecord → ⊥
-number-read bytes sums fault wrong e = subst (IsNumberFault bytes sums) e wrong
+number-read : (mean : Type 0) (share : ℕ → Type 0) (most : ℕ) (fault : RecordFault) →
+    IsNumberFault mean share most fault → fault ≡ ReadRecord → ⊥
+number-read mean share most fault wrong e = subst (IsNumberFault mean share most) e wrong
 
 pub returns-in-Err-check_numbers-clause-stays : goal.returns-in-Err-check_numbers-clause-stays
 returns-in-Err-check_numbers-clause-stays g c =
     let at = (goal.at.returns-in-Err-check_numbers-clause-stays g c).After-lend-view in
     table_as (unread g at)
-    (λ e. number-read c.lend-view.result c.in-Ok.sums
-    c.in-Err-check_numbers.fault (c.in-Err-check_numbers.ensures {u = tt}).fault (err-same e))
+    (λ e. number-read (IsMeanOf (mean_of c.lend-view.result) c.in-Ok.sums)
+    (IsShareOf (share_of c.lend-view.result) c.in-Ok.sums) 22 c.in-Err-check_numbers.fault
+    (c.in-Err-check_numbers.ensures {u = tt}).fault (err-same e))
     (λ no. absurd no)
 
 pub returns-in-Err-check_numbers-clause-first : goal.returns-in-Err-check_numbers-clause-first
 returns-in-Err-check_numbers-clause-first g c file told =
     let at = (goal.at.returns-in-Err-check_numbers-clause-first g c).After-lend-view in
-    let fault = c.in-Err-check_numbers.fault in
     first-wrong file c.lend-view.result c.args.rank c.in-Ok.sums (below_count g at file told)
     (bound_of-most file (c.requires.file file told).file) (c.requires.lower file told)
-    (lent g at file told)
-    (summed g at file told
-    (plays-hold g (goal.at.returns-in-Err-check_numbers-clause-first g c).After-plays_in-recorded
-    file told (c.in_default-check_plays.ensures {u = tt}).least)) fault
-    (c.in-Err-check_numbers.ensures {u = tt}).fault
+    (lent g at file told) (plays-here g at file told
+    (held-here g (goal.at.returns-in-Err-check_numbers-clause-first g c).After-plays_in-recorded
+    file told (c.in_default-check_plays.ensures {u = tt}).least))
+    (summed g at file told)
+    c.in-Err-check_numbers.fault (c.in-Err-check_numbers.ensures {u = tt}).fault
 
 pub returns-clause-stays : goal.returns-clause-stays
 returns-clause-stays g c =
@@ -284,11 +278,11 @@ returns-clause-local g c file told =
     let at = (goal.at.returns-clause-local g c).After-lend-view in
     right-numbers file c.lend-view.result c.args.rank c.in-Ok.sums (below_count g at file told)
     (bound_of-most file (c.requires.file file told).file) (c.requires.lower file told)
-    (lent g at file told)
-    (summed g at file told
-    (plays-hold g (goal.at.returns-clause-local g c).After-plays_in-recorded file told
+    (lent g at file told) (plays-here g at file told
+    (held-here g (goal.at.returns-clause-local g c).After-plays_in-recorded file told
     (c.in_default-check_plays.ensures {u = tt}).least))
-    (c.in_default-check_numbers.ensures {u = tt}).right
+    (summed g at file told) (c.in_default-check_numbers.ensures {u = tt}).mean
+    (c.in_default-check_numbers.ensures {u = tt}).shares
 
 pub returns-clause-kept : goal.returns-clause-kept
 returns-clause-kept g c = record {
