@@ -17,39 +17,12 @@ use Rattle.whole_file.specs.Drafts.{IsOldOrWhole, IsBegun, IsDropped, IsPut}
 use Rattle.whole_file.specs.Paths.{Paths, IsSameBehind, LeadsTo, PathStays, place_of}
 use Rattle.whole_file.specs.declared.draft.Names.{Names}
 use Rattle.whole_file.specs.declared.fault.DraftFault.{DraftFault}
-use Rattle.whole_file.proofs.Ends.{less_left}
 use Rattle.whole_file.proofs.Links.{one_place}
-use Rattle.whole_file.proofs.Stays.{path_stays_same, runs_on, told_on}
+use Rattle.whole_file.proofs.Puts.{handed_all, old_twice, same_old}
+use Rattle.whole_file.proofs.Stays.{all_so, path_stays_same, runs_on, told_on}
 use Rattle.bearoff_cli.specs.Kinds.{IsBuiltOf}
-use Rattle.bearoff_cli.specs.PutFiles.{IsEnded, IsKeptAt, KeepsBehind, LeavesFor, LeavesInput}
-
--- bytes that were handed to a file without any are all of it
-handed_all : (old new : Option (List ℕ)) (bytes : List ℕ) → Appends old new bytes → old ≡ Some []
-    → new ≡ Some bytes
-handed_all None new bytes appended empty = cc
-handed_all (Some xs) None bytes appended empty = absurd appended
-handed_all (Some xs) (Some ys) bytes appended empty =
-    let none : xs ≡ [] = cc in
-    ap (λ zs. Some zs) (subst (λ z. ys ≡ z ++ bytes) none appended)
-
--- old or whole twice
-old_twice : (place : ℕ × List ℕ) (Whole : List ℕ → Type 0) (old mid new : Moment)
-    → IsOldOrWhole place Whole old mid → IsOldOrWhole place Whole mid new
-    → IsOldOrWhole place Whole old new
-old_twice place Whole old mid new first second left may =
-    ⊎_elim (λ before. first left before) (λ whole. inr whole) (second left may)
-
--- each is the other, too
-each_so : (Each Other : Moment → Type 0) → ((m : Moment) → Each m → Other m) → (xs : List Moment)
-    → AllOf Each xs → AllOf Other xs
-each_so Each Other so [] p = tt
-each_so Each Other so (x ∷ xs) p = (so x p.0, each_so Each Other so xs p.1)
-
--- what stays is old or whole
-same_old : (place : ℕ × List ℕ) (Whole : List ℕ → Type 0) (old new : Moment)
-    → IsSameAt place old new → IsOldOrWhole place Whole old new
-same_old place Whole old new same left may =
-    inl (less_left place old new same.crash same.sure left may)
+use Rattle.bearoff_cli.specs.PutFiles.{IsEnded, IsKeptAt, KeepsAll, KeepsBehind, LeavesFor}
+use Rattle.bearoff_cli.specs.PutFiles.{LeavesInput}
 
 -- at the last moment there stands what stood at the first one
 stood : (place : ℕ × List ℕ) (first last : Moment) (past before since : List Moment)
@@ -71,7 +44,7 @@ kept_same paths to Whole first past new goes =
       goes = record {
         since = goes.since;
         told_is = goes.told_is;
-        each = each_so (IsSameAt place first) (IsOldOrWhole place Whole first)
+        each = all_so (IsSameAt place first) (IsOldOrWhole place Whole first)
             (λ m same. same_old place Whole first m same) goes.since goes.each;
       };
       ends = λ last before told.
@@ -86,7 +59,7 @@ goes_there : (paths : Paths) (path to : List ℕ) (first : Moment) (past : List 
 goes_there paths path to first past new leads goes = record {
   since = goes.since;
   told_is = goes.told_is;
-  each = each_so (IsSameBehind paths path first) (IsSameAt (place_of paths to) first)
+  each = all_so (IsSameBehind paths path first) (IsSameAt (place_of paths to) first)
       (λ m same. same to leads) goes.since goes.each;
 }
 
@@ -97,11 +70,13 @@ keeps_stays paths path old new Whole stays first past is to leads =
     inr (kept_same paths to Whole first past new
     (goes_there paths path to first past new leads (stays first past is)))
 
--- .. as where nothing changed
-pub keeps_same : (paths : Paths) (path : List ℕ) (old new : Option (List Moment))
-    (Whole : List ℕ → Type 0) → new ≡ old → KeepsBehind paths path Whole old new
-keeps_same paths path old new Whole same =
-    keeps_stays paths path old new Whole (path_stays_same paths path old new same)
+-- .. and all others, where nothing changed
+pub keeps_all : (paths : Paths) (path : List ℕ) (old : Option (List Moment))
+    (Whole : List ℕ → Type 0) (Kept : Type 0) → KeepsAll paths path Whole old old Kept
+keeps_all paths path old Whole Kept = (
+  keeps_stays paths path old old Whole (path_stays_same paths path old old refl),
+  λ first past is. inr (inl refl),
+)
 
 -- what was kept after it stayed
 kept_later : (paths : Paths) (to : List ℕ) (Whole : List ℕ → Type 0) (first : Moment)
@@ -118,7 +93,7 @@ kept_later paths to Whole first past mid new goes then =
     record {
       goes = runs_on (IsOldOrWhole place Whole) (old_twice place Whole) first past goes.since mid
           new goes.told_is
-          (each_so (IsSameAt place first) (IsOldOrWhole place Whole first)
+          (all_so (IsSameAt place first) (IsOldOrWhole place Whole first)
           (λ m same. same_old place Whole first m same) goes.since goes.each)
           (λ now before told. (then now before told).goes);
       ends = λ now before told. ⊎_elim (λ same. inl (same ∙ at)) (λ whole. inr whole)
@@ -135,7 +110,7 @@ kept_whole paths to Whole bytes first past new whole kept =
       goes = record {
         since = kept.goes.since;
         told_is = kept.goes.told_is;
-        each = each_so (IsOldOrWhole place (λ b. b ≡ bytes) first) (IsOldOrWhole place Whole first)
+        each = all_so (IsOldOrWhole place (λ b. b ≡ bytes) first) (IsOldOrWhole place Whole first)
             (λ m either left may. ⊎_elim (λ before. inl before)
             (λ so. inr (so.0, so.1, subst Whole (sym so.2) whole)) (either left may))
             kept.goes.since kept.goes.each;
@@ -198,17 +173,17 @@ kept_ended paths (Some names) contents old new (Err fault) is_put =
     }
 
 -- a request that changes nothing leaves the disk for each
-pub leaves_same : (paths : Paths) (asked : Asked) (old : Option (List Moment))
-    → LeavesFor paths asked old old
-leaves_same paths default old = refl
-leaves_same paths (build kind pips path) old =
-    keeps_same paths path old old (IsBuiltOf kind pips) refl
-leaves_same paths (check kind path) old = refl
-leaves_same paths (query kind path records) old = refl
-leaves_same paths (ask path lines) old = refl
-leaves_same paths (about path) old = refl
-leaves_same paths (audit kind path) old = refl
-leaves_same paths (upgrade before after) old = inl refl
+pub leaves_same : (paths : Paths) (asked : Asked) (old : Option (List Moment)) (Kept : Type 0)
+    → LeavesFor paths asked old old Kept
+leaves_same paths default old Kept = refl
+leaves_same paths (build kind pips path) old Kept =
+    keeps_all paths path old (IsBuiltOf kind pips) Kept
+leaves_same paths (check kind path) old Kept = refl
+leaves_same paths (query kind path records) old Kept = refl
+leaves_same paths (ask path lines) old Kept = refl
+leaves_same paths (about path) old Kept = refl
+leaves_same paths (audit kind path) old Kept = refl
+leaves_same paths (upgrade before after) old Kept = inl refl
 
 -- .. and the input
 pub input_same : (asked : Asked) (input : Option (List ℕ)) → LeavesInput asked input input
@@ -224,14 +199,14 @@ input_same (upgrade before after) input = refl
 -- where memory is wanting before anything was done, each request ends so
 pub memory_ends : {F W T : Type 0} (remaining : F → Option (List ℕ))
     (contents : W → Option (List ℕ)) (paths : Paths) (told : Option (List Moment))
-    (input old : Option (List ℕ)) (asked : Asked)
-    → EndsAs {T = T} remaining contents paths told told input input old old (Err (Failed Memory))
-    asked
-memory_ends remaining contents paths told input old asked = record {
+    (Kept : Type 0) (input old : Option (List ℕ)) (asked : Asked)
+    → EndsAs {T = T} remaining contents paths told told Kept input input old old
+    (Err (Failed Memory)) asked
+memory_ends remaining contents paths told Kept input old asked = record {
   fault = memory_refusal (IsReadFrom remaining paths told) asked input old;
   done = tt;
   put = tt;
-  leaves = leaves_same paths asked told;
+  leaves = leaves_same paths asked told Kept;
   unread = input_same asked input;
 }
 

@@ -7,7 +7,7 @@ use Rattle.race_model.specs.BoardFiles.{board_book}
 use Rattle.race_model.specs.InputLines.{lines_of}
 use Rattle.race_model.specs.Levels.{IsLevelLine, IsLevelLineIn}
 use Rattle.race_model.specs.Ranks.{count_to}
-use Rattle.race_model.specs.Versions.{full, version_number}
+use Rattle.race_model.specs.Versions.{full}
 use Rattle.race_model.specs.Files.{version_of, bound_of}
 use Rattle.race_model.specs.RightFiles.{IsRightDatabase}
 use Rattle.db_reader.specs.Telling.{WhereTold}

@@ -8,7 +8,7 @@ use Rattle.race_model.specs.Upgrades.{IsUpgrade}
 use Rattle.race_model.specs.Versions.{full}
 use Rattle.command_line.specs.Asked.{Asked, IsAskedBy, default, build, query, upgrade}
 use Rattle.whole_file.specs.Disks.{Moment, Goes, Holds, Lastly}
-use Rattle.whole_file.specs.Drafts.{IsDraft, IsOldOrWhole}
+use Rattle.whole_file.specs.Drafts.{IsDraft, IsOldOrWhole, IsTidyBesides}
 use Rattle.whole_file.specs.Paths.{Paths, IsFixed, LeadsTo, place_of}
 use Rattle.whole_file.specs.Puts.{Puts}
 use Rattle.whole_file.specs.declared.draft.Names.{Names}
@@ -45,7 +45,13 @@ KeepsBehind paths path Whole old new = (first : Moment) (past : List Moment)
     → old ≡ Some (first ∷ past) → (to : List ℕ) → LeadsTo paths path to
     → ((new ≡ None) × IsFixed paths path) ⊎ IsKeptAt paths to Whole first past new
 
--- so a file was ended which was written to its end as these bytes
+-- .. and all other places stay as they were
+abbrev pub KeepsAll : Paths → List ℕ → (List ℕ → Type 0) → Option (List Moment)
+    → Option (List Moment) → Type 0 → Type 0
+KeepsAll paths path Whole old new Kept =
+    KeepsBehind paths path Whole old new × IsTidyBesides paths path old new Kept
+
+-- a file was ended which was written to its end as these bytes, and its place is kept so
 abbrev pub IsEnded : Paths → Option Names → Option (List ℕ) → Option (List Moment)
     → Option (List Moment) → Type 0
 IsEnded paths None contents old new = old ≡ None → new ≡ None
@@ -54,18 +60,16 @@ IsEnded paths (Some names) contents old new = (bytes : List ℕ) (first : Moment
     → IsDraft paths names first
     → IsKeptAt paths (string_bytes names.place) (λ b. b ≡ bytes) first past new
 
--- .. where it is an upgrade: nothing changed, or a right database of version 1 was read
-abbrev pub KeepsUpgrade : Paths → List ℕ → Option (List Moment) → Option (List Moment) → Type 0
-KeepsUpgrade paths path old new = (new ≡ old) ⊎ ((file : List ℕ) × IsRightDatabase file
-    × (version_of file ≡ full) × KeepsBehind paths path (IsUpgrade file) old new)
-
--- what a request leaves of the disk, however it ends: all of it, where it writes no file; else,
--- where its path leads, the old file or the whole new one
+-- what a request leaves of the disk, however it ends: all of it, where it writes no file, or
+-- upgrades none; else, where its path leads, the old file or the whole new one, and all others
 abbrev pub LeavesFor : Paths → Asked → Option (List Moment) → Option (List Moment) → Type 0
-LeavesFor paths (build kind pips path) old new =
-    KeepsBehind paths path (IsBuiltOf kind pips) old new
-LeavesFor paths (upgrade before after) old new = KeepsUpgrade paths after old new
-LeavesFor paths _ old new = new ≡ old
+    → Type 0
+LeavesFor paths (build kind pips path) old new Kept =
+    KeepsAll paths path (IsBuiltOf kind pips) old new Kept
+LeavesFor paths (upgrade before after) old new Kept = (new ≡ old)
+    ⊎ ((file : List ℕ) × IsRightDatabase file × (version_of file ≡ full)
+    × KeepsAll paths after (IsUpgrade file) old new Kept)
+LeavesFor paths _ old new Kept = new ≡ old
 
 -- .. and of the input: all of it, where it answers no lines of it
 abbrev pub LeavesInput : Asked → Option (List ℕ) → Option (List ℕ) → Type 0
@@ -75,9 +79,9 @@ LeavesInput _ input left = left ≡ input
 
 -- words that ask for nothing, or for help, leave both as they were
 abbrev pub LeavesBy : Paths → List (List ℕ) → Option (List Moment) → Option (List Moment)
-    → Option (List ℕ) → Option (List ℕ) → Type 0
-LeavesBy paths words old new input left = ((new ≡ old) × (left ≡ input))
-    ⊎ ((asked : Asked) × IsAskedBy words asked × LeavesFor paths asked old new
+    → Type 0 → Option (List ℕ) → Option (List ℕ) → Type 0
+LeavesBy paths words old new Kept input left = ((new ≡ old) × (left ≡ input))
+    ⊎ ((asked : Asked) × IsAskedBy words asked × LeavesFor paths asked old new Kept
     × LeavesInput asked input left)
 
 -- the output, or the disk, is as it was where the program ends with the status of a bound that is

@@ -43,13 +43,13 @@ IsDone From contents (upgrade before after) input left old new =
 -- a request ended with this result: it was fulfilled or refused
 pub record EndsAs {F W T : Type 0} (remaining : F → Option (List ℕ))
     (contents : W → Option (List ℕ)) (paths : Paths) (told now : Option (List Moment))
-    (input left old new : Option (List ℕ)) (result : Result T ProgramFault) (asked : Asked) :
-    Type 0 where
+    (Kept : Type 0) (input left old new : Option (List ℕ)) (result : Result T ProgramFault)
+    (asked : Asked) : Type 0 where
   pub fault : IfErr result (IsRefusalOf (IsReadFrom remaining paths told) asked input left old new)
   pub done : OnOk result
       (IsDone (IsReadFrom remaining paths told) contents asked input left old new)
   pub put : OnOk result (PutsFor paths asked told now)
-  pub leaves : LeavesFor paths asked told now
+  pub leaves : LeavesFor paths asked told now Kept
   pub unread : LeavesInput asked input left
 
 -- .. with this status, where `Line` holds of what is told

@@ -1,5 +1,5 @@
 //! The whole program, over the files of a system, a reader and two writers.
-ghost use Rattle.std.specs.Prelude.{◌≡◌, ℕ, ◌<◌, ◌≤◌, ◌⊎◌, List, [], ◌++◌, map, Option, Some, None, Ok, Err, IfOk};
+ghost use Rattle.std.specs.Prelude.{◌≡◌, ℕ, ◌<◌, ◌≤◌, ◌⊎◌, List, ◌++◌, map, Option, Some, None, Ok, Err, IfOk};
 ghost use Rattle.std.specs.Prelude.{IfErr, OnOk, OnErr};
 ghost use Rattle.std.specs.Io.KnownBytes.{Appends};
 ghost use Rattle.race_model.specs.BuiltFile.{IsBuilt};
@@ -12,23 +12,23 @@ ghost use Rattle.bearoff_cli.specs.Lines.{error_line, status_of};
 ghost use Rattle.bearoff_cli.specs.Meanings.{meaning_line, shown};
 ghost use Rattle.bearoff_cli.specs.declared.fault.Fault.{Fault};
 ghost use Rattle.bearoff_cli.specs.declared.fault.Fault.TheVariants.{OverBound, Write};
-ghost use Rattle.command_line.specs.Asked.{Asked, Asks, IsAskedBy, asked_by};
+ghost use Rattle.command_line.specs.Asked.{Asked, Asks, IsAskedBy, asked_by, build, upgrade};
 ghost use Rattle.certificate.specs.CheckFaults.{IsFirst};
 ghost use Rattle.certificate.specs.declared.check_fault.CheckFault.{CheckFault};
-ghost use Rattle.bearoff_cli.specs.Tellings.{IsExplainedFor, IsReasonOf, IsToldBy, IsWritten, MayTell, Tells};
+ghost use Rattle.bearoff_cli.specs.Tellings.{IsExplainedFor, IsReasonOf, IsToldBy, IsWritten, MayTell};
 ghost use Rattle.bearoff_cli.specs.Faults.{UsesTurns, IsAnswerFault, IsBoundFault, IsCheckFault, IsFaultIn, IsOwnFault};
 ghost use Rattle.bearoff_cli.specs.Faults.{IsQueryFault, IsUpgradeFault};
 ghost use Rattle.bearoff_cli.specs.FileAnswers.{AreAnswered, AreAnsweredOver, AreAnsweredFrom, IsHandedTo, IsReadFrom};
 ghost use Rattle.bearoff_cli.specs.FileAnswers.{SaysAbout, SaysRight, SaysUpgraded, SaysLevels, about_text, count_line};
 ghost use Rattle.whole_file.specs.Paths.{untold_paths};
 ghost use Rattle.whole_file.specs.Puts.{Puts};
-ghost use Rattle.bearoff_cli.specs.PutFiles.{KeepsBehind, KeepsUpgrade, LeavesBy, LeavesFor, LeavesInput, PutsFor};
+ghost use Rattle.bearoff_cli.specs.PutFiles.{LeavesBy, LeavesFor, LeavesInput, PutsFor};
 ghost use Rattle.bearoff_cli.specs.PutFiles.{PutsUpgrade, KeepsIfRefused, KeepsIfTold};
 ghost use Rattle.retrograde.specs.UsualVersion.{usual_version};
 ghost use Rattle.epc_query.specs.Kinds.{IsRightAs};
 ghost use Rattle.bearoff_cli.specs.Kinds.{IsBuiltOf, WritesBuiltOf, greatest};
 ghost use Rattle.bearoff_cli.specs.Requests.{EndsAs, EndsBy, IsDone};
-ghost use Rattle.bearoff_cli.specs.StoppedRuns.{AreStopped, IsAboutEnd, IsEndOf, IsNothingOr, IsRefusalOf, IsUnreadEnd};
+ghost use Rattle.bearoff_cli.specs.StoppedRuns.{AreStopped, IsAboutEnd, IsNothingOr, IsRefusalOf, IsUnreadEnd};
 ghost use Rattle.bearoff_cli.specs.StoppedRuns.{LeavesLevels, LeavesLine, LeavesReplies, SaysUpgradedPart};
 ghost use Rattle.bearoff_cli.specs.declared.act.Done.TheVariants.{Built};
 ghost use Rattle.bearoff_cli.specs.declared.act.ProgramFault.TheVariants.{Failed};
@@ -138,9 +138,11 @@ pub fn act_on<D: Disk, S: AsStr, I: Read, O: Write, E: Write>(
         → PutsFor (D.paths disk.old) asked (D.told disk.old) (D.told disk.new) }
     ensures stays { 1 < result.status → D.told disk.new ≡ D.told disk.old }
     ensures leaves { (asked : Asked) → Asks (map S.text words.entry.now) asked
-        → LeavesFor (D.paths disk.old) asked (D.told disk.old) (D.told disk.new) }
+        → LeavesFor (D.paths disk.old) asked (D.told disk.old) (D.told disk.new)
+        (D.kept disk.new) }
     ensures other { LeavesBy (D.paths disk.old) (map S.text words.entry.now)
-        (D.told disk.old) (D.told disk.new) (I.remaining input.old) (I.remaining input.new) }
+        (D.told disk.old) (D.told disk.new) (D.kept disk.new)
+        (I.remaining input.old) (I.remaining input.new) }
 {
     tell(alloc, perform(disk, alloc, words, input, output), errors)
 }
@@ -254,13 +256,14 @@ fn perform<'a, D: Disk, S: AsStr, I: Read, O: Write>(
     ensures refused { KeepsIfTold result (O.contents output.old) (O.contents output.new) }
     ensures ends { (asked : Asked) → Asks (map S.text words.entry.now) asked
         → EndsAs D.Reader.remaining ⟦<BufWriter<D::File> as Write>⟧.contents
-        (D.paths disk.old) (D.told disk.old) (D.told disk.new)
+        (D.paths disk.old) (D.told disk.old) (D.told disk.new) (D.kept disk.new)
         (I.remaining input.old) (I.remaining input.new)
         (O.contents output.old) (O.contents output.new) result asked }
     ensures explained { IfErr result (IsExplainedFor (map S.text words.entry.now)) }
     ensures stays { KeepsIfTold result (D.told disk.old) (D.told disk.new) }
     ensures other { LeavesBy (D.paths disk.old) (map S.text words.entry.now)
-        (D.told disk.old) (D.told disk.new) (I.remaining input.old) (I.remaining input.new) }
+        (D.told disk.old) (D.told disk.new) (D.kept disk.new)
+        (I.remaining input.old) (I.remaining input.new) }
 {
     match read_words(alloc, words) {
         Ok(request) => fulfil(disk, alloc, request, input, output),
@@ -332,7 +335,7 @@ fn fulfil<'a, D: Disk, I: Read, O: Write>(
         (D.told disk.old) (D.told disk.new)) }
     ensures stays { KeepsIfTold result (D.told disk.old) (D.told disk.new) }
     ensures leaves { LeavesFor (D.paths disk.old) (asked_by request.entry)
-        (D.told disk.old) (D.told disk.new) }
+        (D.told disk.old) (D.told disk.new) (D.kept disk.new) }
     ensures unread { LeavesInput (asked_by request.entry)
         (I.remaining input.old) (I.remaining input.new) }
 {
@@ -552,8 +555,8 @@ fn write_built<D: Disk, O: Write>(
         (D.told disk.old) (D.told disk.new)) }
     ensures built { OnOk result (Appends (O.contents output.old) (O.contents output.new)
         (count_line Built pips (count_to pips))) }
-    ensures kept { KeepsBehind (D.paths disk.old) path.now (IsBuiltOf kind pips)
-        (D.told disk.old) (D.told disk.new) }
+    ensures kept { LeavesFor (D.paths disk.old) (build kind pips path.now)
+        (D.told disk.old) (D.told disk.new) (D.kept disk.new) }
     ensures stays { KeepsIfRefused result (D.told disk.old) (D.told disk.new) }
 {
     if pips > greatest(kind) {
@@ -713,7 +716,8 @@ fn upgrade_database<D: Disk, O: Write>(
         (O.contents output.old) (O.contents output.new)) }
     ensures put { OnOk result (PutsUpgrade (D.paths disk.old) new.now
         (D.told disk.old) (D.told disk.new)) }
-    ensures kept { KeepsUpgrade (D.paths disk.old) new.now (D.told disk.old) (D.told disk.new) }
+    ensures kept { LeavesFor (D.paths disk.old) (upgrade old.now new.now)
+        (D.told disk.old) (D.told disk.new) (D.kept disk.new) }
     ensures stays { KeepsIfRefused result (D.told disk.old) (D.told disk.new) }
 {
     let bytes = read_file(disk, alloc, old)?;

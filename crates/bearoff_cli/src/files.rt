@@ -1,13 +1,14 @@
 //! Files, read and written by blocks.
-ghost use Rattle.std.specs.Prelude.{◌≡◌, ℕ, ◌≤◌, length, take, Ok, Err, IfOk, IfErr, OnOk, OnErr};
+ghost use Rattle.std.specs.Prelude.{◌≡◌, ℕ, ◌≤◌, length, take, Ok, Err, IfOk, IfErr, IsSome, OnOk, OnErr};
 ghost use Rattle.std.specs.Io.KnownBytes.{Appends, Consumes, IsAtEnd, Keeps};
 ghost use Rattle.bearoff_cli.specs.Lines.{status_of};
 ghost use Rattle.bearoff_cli.specs.declared.fault.Fault.TheVariants.{File, Write, Memory};
 ghost use Rattle.retrograde.specs.BuiltBoards.{IsBuiltBoard};
 ghost use Rattle.bearoff_cli.specs.Faults.{IsBuildFault, IsReadFault, IsUpgradeFault, of_unread};
+ghost use Rattle.command_line.specs.Asked.{build};
 ghost use Rattle.bearoff_cli.specs.FileAnswers.{IsHandedTo, IsReadFrom};
 ghost use Rattle.bearoff_cli.specs.Kinds.{IsBuiltOf, Makes, WritesBuiltOf, greatest};
-ghost use Rattle.bearoff_cli.specs.PutFiles.{IsEnded, KeepsBehind};
+ghost use Rattle.bearoff_cli.specs.PutFiles.{IsEnded, KeepsAll, LeavesFor};
 ghost use Rattle.db_layout.specs.declared.stated.Kind.{Kind};
 ghost use Rattle.race_model.specs.Versions.{full};
 ghost use Rattle.db_layout.specs.Writes.{AppendsPart};
@@ -15,8 +16,7 @@ ghost use Rattle.db_reader.specs.Telling.{WhereTold};
 ghost use Rattle.certificate.specs.Upgrades.{WritesUpgrade};
 ghost use Rattle.race_model.specs.Upgrades.{IsUpgrade};
 ghost use Rattle.std.specs.Io.Buffered.{writer_contents};
-ghost use Rattle.whole_file.specs.Drafts.{IsBegun, IsDropped, IsPut};
-ghost use Rattle.whole_file.specs.Paths.{PathStays};
+ghost use Rattle.whole_file.specs.Drafts.{IsBegun, IsDropped, IsGone, IsLeft, IsPut};
 ghost use Rattle.whole_file.specs.Puts.{Puts};
 
 use crate::fault::Fault;
@@ -172,8 +172,8 @@ fn begin_file<D: Disk>(disk: &mut D, alloc: Global, path: &str) -> Result<Draft<
     ensures paths { D.paths disk.new ≡ D.paths disk.old }
     ensures begun { IfOk result (λ draft. IsBegun (D.paths disk.old) path.now draft.names
         (writer_contents D.File.contents draft.writer) (D.told disk.old) (D.told disk.new)) }
-    ensures stays { OnErr result
-        (PathStays (D.paths disk.old) path.now (D.told disk.old) (D.told disk.new)) }
+    ensures stays { OnErr result (IsLeft (D.paths disk.old) path.now
+        (D.told disk.old) (D.told disk.new) (D.kept disk.new)) }
 {
     match begin(disk, alloc, path) {
         Ok(draft) => Ok(draft),
@@ -197,6 +197,9 @@ fn finish_file<D: Disk>(
         (writer_contents D.File.contents draft.writer) (D.told disk.old) (D.told disk.new)) }
     ensures dropped { OnErr written
         (IsDropped (D.paths disk.old) draft.names (D.told disk.old) (D.told disk.new)) }
+    ensures gone { IsGone (D.paths disk.old) draft.names (D.told disk.old) (D.told disk.new)
+        (OnOk written (IsSome (writer_contents D.File.contents draft.writer)))
+        (D.kept disk.new) }
 {
     match written {
         Ok(()) => match draft.finish(disk, Ok(())) {
@@ -239,8 +242,8 @@ pub fn build_file<D: Disk>(
     ensures paths { D.paths disk.new ≡ D.paths disk.old }
     ensures put { OnOk result (Puts (D.paths disk.old) path.now (IsBuiltOf kind pips)
         (D.told disk.old) (D.told disk.new)) }
-    ensures kept { KeepsBehind (D.paths disk.old) path.now (IsBuiltOf kind pips)
-        (D.told disk.old) (D.told disk.new) }
+    ensures kept { LeavesFor (D.paths disk.old) (build kind pips path.now)
+        (D.told disk.old) (D.told disk.new) (D.kept disk.new) }
 {
     let room = stack_room(alloc)?;
     let ready = ready_build(alloc, kind, pips)?;
@@ -331,8 +334,8 @@ pub fn upgrade_file<D: Disk, T: Table>(
     ensures paths { D.paths disk.new ≡ D.paths disk.old }
     ensures put { WhereTold checked.old.told (λ file. OnOk result (Puts (D.paths disk.old) path.now
         (IsUpgrade file) (D.told disk.old) (D.told disk.new))) }
-    ensures kept { WhereTold checked.old.told (λ file. KeepsBehind (D.paths disk.old) path.now
-        (IsUpgrade file) (D.told disk.old) (D.told disk.new)) }
+    ensures kept { WhereTold checked.old.told (λ file. KeepsAll (D.paths disk.old) path.now
+        (IsUpgrade file) (D.told disk.old) (D.told disk.new) (D.kept disk.new)) }
     ensures cause { IfErr result IsUpgradeFault }
     ensures fault { checked.old.version ≡ full → IfErr result (λ fault. status_of fault ≡ 1) }
     ensures stays { (checked.new.told ≡ checked.old.told)

@@ -1,5 +1,5 @@
 //! The prompt that stands before each line of standard input where it is typed at a terminal.
-ghost use Rattle.std.specs.Prelude.{◌≡◌, Option, Some, None, List, [], take, MatchResult};
+ghost use Rattle.std.specs.Prelude.{◌≡◌, [], take, MatchResult};
 ghost use Rattle.std.specs.Io.KnownBytes.{ReadConsumes};
 ghost use Rattle.std.specs.Io.{ReadsAtMost};
 ghost use Rattle.bearoff_cli.specs.TypedLines.{HandsOn, IsTyped, handed_on, is_help};

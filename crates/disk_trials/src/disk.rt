@@ -156,6 +156,8 @@ impl Disk for MemoryDisk {
 
     ghost kept = { λ disk. disk.has_kept ≡ true };
 
+    ghost closed = { λ _ _. ⊥ };
+
     fn open(&mut self, path: &str) -> Result<Option<MemoryFile>, DiskFault> {
         self.count()?;
         match self.at(path) {

@@ -1,31 +1,33 @@
 -- A place stays as it was.
 use Rattle.std.proofs.Common.{◌≡◌, ◌≢◌, ℕ, inl, inr, ⊎_elim, List, [], ◌∷◌, ◌++◌, Option, Some, None, sym}
-use Rattle.std.proofs.Common.{subst, ap, ◌∙◌, append_assoc}
+use Rattle.std.proofs.Common.{subst, ap, ◌∙◌, append_assoc, ◌⊎◌, Bool, true, false, IsTrue}
 use Rattle.std.specs.Prelude.{IsSomeAnd}
 use Rattle.std.specs.String.{string_bytes}
-use Rattle.whole_file.specs.Disks.{Moment, IsSameAt, Creates, Steps, AllOf, Goes, Lastly, Runs, StaysAt}
-use Rattle.whole_file.specs.Calls.{RemovesOrStays}
-use Rattle.whole_file.specs.Drafts.{IsDraft, IsReady, IsBegun}
+use Rattle.whole_file.specs.Disks.{Moment, IsSameAt, IsStill, Creates, Settles, Renames, Removes, Steps, AllOf, Goes}
+use Rattle.whole_file.specs.Disks.{Lastly, Runs, StaysAt}
+use Rattle.whole_file.specs.Calls.{AnswersSettled, RemovesOrStays}
+use Rattle.whole_file.specs.Drafts.{IsAlone, IsDraft, IsReady, IsBegun, IsTidy}
 use Rattle.whole_file.specs.Paths.{Paths, IsSameBehind, LeadsTo, PathStays, folder_of, place_of}
 use Rattle.whole_file.specs.declared.draft.Names.{Names}
 use Rattle.std.specs.Io.KnownBytes.{Keeps}
+use Rattle.whole_file.proofs.Gone.{gone_removed}
 use Rattle.whole_file.proofs.Known.{known_kept}
 use Rattle.whole_file.proofs.Links.{one_place}
 
 -- each of two lists
-all_of_both : (Each : Moment → Type 0) (xs ys : List Moment) → AllOf Each xs → AllOf Each ys
+pub all_of_both : (Each : Moment → Type 0) (xs ys : List Moment) → AllOf Each xs → AllOf Each ys
     → AllOf Each (xs ++ ys)
 all_of_both Each [] ys p q = q
 all_of_both Each (x ∷ xs) ys p q = (p.0, all_of_both Each xs ys p.1 q)
 
 -- each is the other, too
-all_so : (Each Other : Moment → Type 0) → ((m : Moment) → Each m → Other m) → (xs : List Moment)
+pub all_so : (Each Other : Moment → Type 0) → ((m : Moment) → Each m → Other m) → (xs : List Moment)
     → AllOf Each xs → AllOf Other xs
 all_so Each Other so [] p = tt
 all_so Each Other so (x ∷ xs) p = (so x p.0, all_so Each Other so xs p.1)
 
 -- the same as the same
-same_again : (place : ℕ × List ℕ) (old mid new : Moment) → IsSameAt place old mid
+pub same_again : (place : ℕ × List ℕ) (old mid new : Moment) → IsSameAt place old mid
     → IsSameAt place mid new → IsSameAt place old new
 same_again place old mid new p q = record {
   at = q.at ∙ p.at;
@@ -57,38 +59,19 @@ pub told_on : (now : Moment) (past since : List Moment) (told : Option (List Mom
 told_on now past [] told is = (now, past, is)
 told_on now past (m ∷ since) told is = (m, since ++ (now ∷ past), is)
 
--- a place stays as it was twice
-pub stays_twice : (place : ℕ × List ℕ) (old mid new : Option (List Moment)) → StaysAt place old mid
-    → StaysAt place mid new → StaysAt place old new
-stays_twice place old mid new first second now past is =
-    let goes = first now past is in
+-- a place that stayed as it was stays so
+pub goes_on : (place : ℕ × List ℕ) (now : Moment) (past : List Moment)
+    (mid new : Option (List Moment)) → Goes (IsSameAt place now) (now ∷ past) mid
+    → StaysAt place mid new → Goes (IsSameAt place now) (now ∷ past) new
+goes_on place now past mid new goes then =
     runs_on (IsSameAt place) (same_again place) now past goes.since mid new goes.told_is goes.each
-    second
+    then
 
 -- nothing has changed
 pub stays_same : (place : ℕ × List ℕ) (old new : Option (List Moment)) → new ≡ old
     → StaysAt place old new
 stays_same place old new same now past is =
     record { since = []; told_is = same ∙ is; each = tt }
-
--- a file was made somewhere else
-pub stays_made : (other place : ℕ × List ℕ) (old new : Option (List Moment)) → other ≢ place
-    → Steps (Creates other) old new → StaysAt place old new
-stays_made other place old new apart steps now past is =
-    let step = steps now past is in
-    record {
-      since = step.0 ∷ [];
-      told_is = step.1;
-      each = (
-        record {
-          at = step.2.others place (λ e. apart (sym e));
-          crash = λ e may. ⊎_elim (λ before. before) (λ made. absurd (apart (sym made.0)))
-              (step.2.crash place e may);
-          sure = λ file _. ap (λ s. s file) step.2.sure;
-        },
-        tt,
-      );
-    }
 
 -- a file was taken away somewhere else, or not
 pub stays_gone : (other place : ℕ × List ℕ) (old new : Option (List Moment)) → other ≢ place
@@ -106,6 +89,68 @@ stays_gone other place old new apart (inl steps) now past is =
           crash = λ e may. ⊎_elim (λ before. before) (λ gone. absurd (apart (sym gone.0)))
               (step.2.crash place e may);
           sure = λ file _. ap (λ s. s file) step.2.sure;
+        },
+        tt,
+      );
+    }
+
+-- a file got another name, at two other places
+pub stays_renamed : (from to place : ℕ × List ℕ) (old new : Option (List Moment)) → place ≢ from
+    → place ≢ to → Steps (Renames from to) old new → StaysAt place old new
+stays_renamed from to place old new not_from not_to steps now past is =
+    let step = steps now past is in
+    record {
+      since = step.0 ∷ [];
+      told_is = step.1;
+      each = (
+        record {
+          at = step.2.others place not_from not_to;
+          crash = λ e may. ⊎_elim (λ before. before)
+              (⊎_elim (λ moved. absurd (not_to moved.0)) (λ gone. absurd (not_from gone.0)))
+              (step.2.crash place e may);
+          sure = λ file _. ap (λ s. s file) step.2.sure;
+        },
+        tt,
+      );
+    }
+
+-- the names of a folder were made sure of, or not
+pub stays_named : (paths : Paths) (folder : ℕ) (place : ℕ × List ℕ)
+    (old new : Option (List Moment)) (answer : Bool) → AnswersSettled paths folder old new answer
+    → StaysAt place old new
+stays_named paths folder place old new false answer = stays_same place old new answer.1
+stays_named paths folder place old new true answer = λ now past is.
+    let step = answer now past is in
+    record {
+      since = step.0 ∷ [];
+      told_is = step.1;
+      each = (
+        record {
+          at = ap (λ at. at place) step.2.at;
+          crash = λ e may. step.2.crash place e may;
+          sure = λ file _. ap (λ s. s file) step.2.sure;
+        },
+        tt,
+      );
+    }
+
+-- the bytes of a file were made sure of that no crash leaves at a place
+pub goes_settled : (from place : ℕ × List ℕ) (bytes : List ℕ) (now : Moment) (past : List Moment)
+    (old new : Option (List Moment))
+    → ((file : ℕ) → now.at from ≡ Some file → IsTrue (now.may_be_at place (Some file)) → ⊥)
+    → old ≡ Some (now ∷ past) → Steps (Settles from bytes) old new
+    → Goes (IsSameAt place now) (now ∷ past) new
+goes_settled from place bytes now past old new own is steps =
+    let step = steps now past is in
+    record {
+      since = step.0 ∷ [];
+      told_is = step.1;
+      each = (
+        record {
+          at = ap (λ at. at place) step.2.at;
+          crash = λ e may. subst (λ crash. IsTrue (crash place e)) step.2.crash may;
+          sure = λ file may. step.2.others file (λ at. own file at
+              (subst (λ crash. IsTrue (crash place (Some file))) step.2.crash may));
         },
         tt,
       );
@@ -131,14 +176,11 @@ pub path_stays_same : (paths : Paths) (path : List ℕ) (old new : Option (List 
 path_stays_same paths path old new same now past is =
     record { since = []; told_is = same ∙ is; each = tt }
 
--- .. and then again
-pub path_stays_twice : (paths : Paths) (path : List ℕ) (old mid new : Option (List Moment))
-    → PathStays paths path old mid → PathStays paths path mid new → PathStays paths path old new
-path_stays_twice paths path old mid new first second now past is =
-    let goes = first now past is in
-    runs_on (IsSameBehind paths path)
-    (λ a b c p q to leads. same_again (place_of paths to) a b c (p to leads) (q to leads))
-    now past goes.since mid new goes.told_is goes.each second
+-- .. where a disk that tells its moments stays as it was
+pub path_stays_still : (paths : Paths) (path : List ℕ) (old new : Option (List Moment))
+    → IsStill old new → PathStays paths path old new
+path_stays_still paths path old new still now past is =
+    path_stays_same paths path old new (still now past is) now past is
 
 -- a new file that was made beside a place is a draft for it
 pub ready : (paths : Paths) (names : Names) (contents : Option (List ℕ))
@@ -161,39 +203,64 @@ ready paths names contents old new folder apart steps empty first past is =
             folder = folder;
           }),
       empty (first ∷ past) is,
+      record {
+        now = step.0;
+        told_is = step.1;
+        free = step.2.free;
+        own = λ p other file at may.
+            let same : file ≡ step.2.file = let made = step.2.made in cc in
+            ⊎_elim (λ before. step.2.is_new p
+            (subst (λ f. IsTrue (first.may_be_at p (Some f))) same before))
+            (λ made. other made.0) (step.2.crash p (Some file) may);
+        others = λ p other. record {
+          at = step.2.others p other;
+          crash = λ e may. ⊎_elim (λ before. before) (λ made. absurd (other made.0))
+              (step.2.crash p e may);
+          sure = λ file _. ap (λ s. s file) step.2.sure;
+        };
+      },
     )
 
--- what was begun after the place stayed as it was
+-- each place but that of a new file stays as it was
+pub goes_alone : (paths : Paths) (names : Names) (first : Moment) (past : List Moment)
+    (told : Option (List Moment)) → IsAlone paths names first past told → (p : ℕ × List ℕ)
+    → p ≢ place_of paths (string_bytes names.new) → Goes (IsSameAt p first) (first ∷ past) told
+goes_alone paths names first past told alone p other =
+    record { since = alone.now ∷ []; told_is = alone.told_is; each = (alone.others p other, tt) }
+
+-- .. so it is at the place of a draft
+pub ready_stays : (paths : Paths) (names : Names) (place : List ℕ) (contents : Option (List ℕ))
+    (old new : Option (List Moment)) → string_bytes names.place ≡ place
+    → IsReady paths names contents old new → StaysAt (place_of paths place) old new
+ready_stays paths names place contents old new same is_ready first past is =
+    let ready = is_ready first past is in
+    let draft = ready.0 ready.2.now (first ∷ past) ready.2.told_is in
+    goes_alone paths names first past new ready.2 (place_of paths place)
+    (λ e. draft.apart (sym e ∙ ap (place_of paths) (sym same)))
+
+-- what was begun after the disk stayed as it was
 pub begun_later : (paths : Paths) (path : List ℕ) (names : Option Names)
-    (contents : Option (List ℕ)) (old mid new : Option (List Moment)) → PathStays paths path old mid
+    (contents : Option (List ℕ)) (old mid new : Option (List Moment)) → IsStill old mid
     → IsBegun paths path names contents mid new → IsBegun paths path names contents old new
-begun_later paths path None contents old mid new stays begun = λ first past is.
-    let goes = stays first past is in
-    let last = told_on first past goes.since mid goes.told_is in
-    begun last.0 last.1 last.2
-begun_later paths path (Some names) contents old mid new stays begun = (
-  path_stays_twice paths path old mid new stays begun.0,
-  λ first past is.
-      let goes = stays first past is in
-      let last = told_on first past goes.since mid goes.told_is in
-      begun.1 last.0 last.1 last.2,
-  λ first past is.
-      let goes = stays first past is in
-      let last = told_on first past goes.since mid goes.told_is in
-      begun.2 last.0 last.1 last.2,
+begun_later paths path None contents old mid new still begun = λ first past is.
+    begun first past (still first past is ∙ is)
+begun_later paths path (Some names) contents old mid new still begun = (
+  λ first past is. begun.0 first past (still first past is ∙ is),
+  λ first past is. begun.1 first past (still first past is ∙ is),
+  λ first past is. begun.2 first past (still first past is ∙ is),
 )
 
 -- .. at the place that was found
 pub begun_beside : (paths : Paths) (path place : List ℕ) (names : Option Names)
     (contents : Option (List ℕ)) (old new : Option (List Moment))
     → ((moments : List Moment) → old ≡ Some moments → LeadsTo paths path place)
-    → StaysAt (place_of paths place) old new
     → IsSomeAnd names (λ names. (string_bytes names.place ≡ place)
     × IsReady paths names contents old new)
     → IsBegun paths path names contents old new
-begun_beside paths path place None contents old new leads stays is_ready = absurd is_ready
-begun_beside paths path place (Some names) contents old new leads stays is_ready = (
-  path_stays paths path place old new leads stays,
+begun_beside paths path place None contents old new leads is_ready = absurd is_ready
+begun_beside paths path place (Some names) contents old new leads is_ready = (
+  path_stays paths path place old new leads
+      (ready_stays paths names place contents old new is_ready.0 is_ready.1),
   is_ready.1,
   λ first past told. subst (LeadsTo paths path) (sym is_ready.0) (leads (first ∷ past) told),
 )
@@ -201,18 +268,33 @@ begun_beside paths path place (Some names) contents old new leads stays is_ready
 -- a draft that is taken away again leaves its place as it was
 pub stays_dropped : (paths : Paths) (names : Names) (place : List ℕ) (contents : Option (List ℕ))
     (old mid new : Option (List Moment)) → string_bytes names.place ≡ place
-    → StaysAt (place_of paths place) old mid → IsReady paths names contents old mid
+    → IsReady paths names contents old mid
     → RemovesOrStays (place_of paths (string_bytes names.new)) mid new
     → StaysAt (place_of paths place) old new
-stays_dropped paths names place contents old mid new same stays is_ready gone first past is =
-    let goes = stays first past is in
-    let last = told_on first past goes.since mid goes.told_is in
-    let draft = (is_ready first past is).0 last.0 last.1 last.2 in
-    let apart : place_of paths (string_bytes names.new) ≢ place_of paths place =
-    λ e. draft.apart (e ∙ ap (place_of paths) (sym same)) in
-    stays_twice (place_of paths place) old mid new stays
-    (stays_gone _ _ mid new apart gone) first past
-    is
+stays_dropped paths names place contents old mid new same is_ready gone first past is =
+    let ready = is_ready first past is in
+    let draft = ready.0 ready.2.now (first ∷ past) ready.2.told_is in
+    goes_on (place_of paths place) first past mid new
+    (ready_stays paths names place contents old mid same is_ready first past is)
+    (stays_gone _ _ mid new (λ e. draft.apart (e ∙ ap (place_of paths) (sym same))) gone)
+
+-- .. and all others
+pub tidy_dropped : (paths : Paths) (names : Names) (contents : Option (List ℕ))
+    (old mid new : Option (List Moment)) (Kept : Type 0) → IsReady paths names contents old mid
+    → RemovesOrStays (place_of paths (string_bytes names.new)) mid new
+    → Steps (Removes (place_of paths (string_bytes names.new))) mid new ⊎ Kept
+    → IsTidy old new Kept
+tidy_dropped paths names contents old mid new Kept is_ready removed gone first past is =
+    let alone = (is_ready first past is).2 in
+    let place = place_of paths (string_bytes names.new) in
+    inr (record {
+      draft = place;
+      free = alone.free;
+      others = λ p other _. goes_on p first past mid new
+          (goes_alone paths names first past mid alone p other)
+          (stays_gone place p mid new (λ e. other (sym e)) removed);
+      gone = gone_removed place Kept alone.now (first ∷ past) mid new alone.told_is gone;
+    })
 
 -- a draft stays one with its writer
 pub ready_kept : (paths : Paths) (names : Names) (contents kept : Option (List ℕ))
@@ -222,20 +304,18 @@ ready_kept paths names contents kept old mid new is_ready keeps same first past 
     let draft = is_ready first past is in (
       subst (Lastly (IsDraft paths names)) (sym same) draft.0,
       known_kept contents kept [] keeps draft.1,
+      subst (IsAlone paths names first past) (sym same) draft.2,
     )
 
 -- a draft at the place that was found was begun
 pub begun_made : (paths : Paths) (path place : List ℕ) (names : Names) (drafts : Option Names)
     (contents kept : Option (List ℕ)) (old mid new : Option (List Moment))
     → ((moments : List Moment) → old ≡ Some moments → LeadsTo paths path place)
-    → StaysAt (place_of paths place) old mid → string_bytes names.place ≡ place
+    → string_bytes names.place ≡ place
     → IsReady paths names contents old mid → Keeps contents kept → drafts ≡ Some names → new ≡ mid
     → IsBegun paths path drafts kept old new
-begun_made paths path place names drafts contents kept old mid new leads stays same is_ready keeps
-    is told =
-    subst (λ d. IsBegun paths path d kept old new) (sym is) (
-      path_stays paths path place old new leads
-          (subst (StaysAt (place_of paths place) old) (sym told) stays),
-      ready_kept paths names contents kept old mid new is_ready keeps told,
-      λ first past e. subst (LeadsTo paths path) (sym same) (leads (first ∷ past) e),
-    )
+begun_made paths path place names drafts contents kept old mid new leads same is_ready keeps is
+    told =
+    subst (λ d. IsBegun paths path d kept old new) (sym is)
+    (begun_beside paths path place (Some names) kept old new leads
+    (same, ready_kept paths names contents kept old mid new is_ready keeps told))

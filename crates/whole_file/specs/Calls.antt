@@ -1,10 +1,10 @@
 -- What the calls of a disk answer. Source: this project's profile.
-use Rattle.std.specs.Prelude.{◌≡◌, ◌≢◌, ℕ, ◌⊎◌, List, [], Bool, true, false, IsTrue, Option, Some, None}
+use Rattle.std.specs.Prelude.{◌≡◌, ◌≢◌, ℕ, ◌⊎◌, List, [], Bool, true, false, IsTrue, Option, Some, None, Result, OnOk}
 use Rattle.std.specs.String.{string_bytes}
 use Rattle.whole_file.specs.Disks.{Moment, Steps, Creates, Removes, SettlesNames}
 use Rattle.whole_file.specs.Paths.{Paths}
 use Rattle.whole_file.specs.declared.disk.Link.{Link}
-use Rattle.whole_file.specs.declared.disk.Link.TheVariants.{To, Not, Broken}
+use Rattle.whole_file.specs.declared.disk.Link.TheVariants.{To, Not}
 use Rattle.whole_file.specs.declared.disk.Made.{Made}
 use Rattle.whole_file.specs.declared.disk.Made.TheVariants.{File, Taken, Refused}
 
@@ -12,7 +12,6 @@ use Rattle.whole_file.specs.declared.disk.Made.TheVariants.{File, Taken, Refused
 abbrev pub AnswersLink : Option (List ℕ) → Link → Type 0
 AnswersLink target (To path) = target ≡ Some (string_bytes path)
 AnswersLink target Not = target ≡ None
-AnswersLink target Broken = ⊥
 
 -- a file was made that has no bytes yet, or nothing changed
 abbrev pub AnswersMade : {F : Type 0} → (F → Option (List ℕ)) → ℕ × List ℕ
@@ -33,6 +32,11 @@ abbrev pub AnswersSettled : Paths → ℕ → Option (List Moment) → Option (L
     → Type 0
 AnswersSettled paths folder old new true = Steps (SettlesNames folder) old new
 AnswersSettled paths folder old new false = IsTrue (paths.fleeting folder) × (new ≡ old)
+
+-- a file was closed, and that it has these bytes is told where they are known
+abbrev pub Closes : {T E : Type 0} → Result T E → Option (List ℕ) → (List ℕ → Type 0) → Type 0
+Closes result contents Closed =
+    OnOk result ((bytes : List ℕ) → contents ≡ Some bytes → Closed bytes)
 
 -- the file at a place was taken away, or nothing changed
 abbrev pub RemovesOrStays : ℕ × List ℕ → Option (List Moment) → Option (List Moment) → Type 0

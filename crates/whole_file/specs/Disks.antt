@@ -97,6 +97,10 @@ abbrev pub Runs : (Moment → Moment → Type 0) → Option (List Moment) → Op
 Runs Each old new = (first : Moment) (past : List Moment) → old ≡ Some (first ∷ past)
     → Goes (Each first) (first ∷ past) new
 
+-- where a disk tells its moments, it stays as it was
+abbrev pub IsStill : Option (List Moment) → Option (List Moment) → Type 0
+IsStill old new = (first : Moment) (past : List Moment) → old ≡ Some (first ∷ past) → new ≡ old
+
 -- no file stands at a place
 abbrev pub IsFree : ℕ × List ℕ → Moment → Type 0
 IsFree place disk = disk.at place ≡ None

@@ -27,11 +27,28 @@ abbrev pub IsWhole : ℕ × List ℕ → (List ℕ → Type 0) → Moment → Ty
 IsWhole place Whole disk = (left : Option (List ℕ)) → MayLeave disk place left
     → (bytes : List ℕ) × (left ≡ Some bytes) × Whole bytes
 
+-- no crash leaves the file at the first of the names at another place
+abbrev pub IsOwn : Paths → Names → Moment → Type 0
+IsOwn paths names disk = (p : ℕ × List ℕ) → p ≢ place_of paths (string_bytes names.new)
+    → (file : ℕ) → disk.at (place_of paths (string_bytes names.new)) ≡ Some file
+    → IsTrue (disk.may_be_at p (Some file)) → ⊥
+
+-- a file was made at the first of the names, where none stood, and each other place is as it was
+pub record IsAlone (paths : Paths) (names : Names) (first : Moment) (past : List Moment)
+    (told : Option (List Moment)) : Type 0 where
+  pub now : Moment
+  pub told_is : told ≡ Some (now ∷ first ∷ past)
+  pub free : first.at (place_of paths (string_bytes names.new)) ≡ None
+  pub own : IsOwn paths names now
+  pub others : (p : ℕ × List ℕ) → p ≢ place_of paths (string_bytes names.new)
+      → IsSameAt p first now
+
 -- a new file without bytes is a draft by these names
 abbrev pub IsReady : Paths → Names → Option (List ℕ) → Option (List Moment)
     → Option (List Moment) → Type 0
 IsReady paths names contents old new = (first : Moment) (past : List Moment)
     → old ≡ Some (first ∷ past) → Lastly (IsDraft paths names) new × (contents ≡ Some [])
+    × IsAlone paths names first past new
 
 -- how the last steps end: the place has these bytes, and a crash leaves nothing else, or the names
 -- of the folder can't be made sure of; or what was there stays, or the bytes have taken its place
@@ -81,11 +98,42 @@ IsDropped paths (Some names) old new = (first : Moment) (past : List Moment)
     → old ≡ Some (first ∷ past) → IsDraft paths names first
     → Goes (IsSameAt (place_of paths (string_bytes names.place)) first) (first ∷ past) new
 
--- a file was ended, and nothing stands under its first name; or it has stayed there
-abbrev pub IsGone : Paths → Option Names → Option (List ℕ) → Option (List Moment)
-    → Option (List Moment) → Type 0 → Type 0
-IsGone paths None contents old new Kept = Unit {0}
-IsGone paths (Some names) contents old new Kept = (bytes : List ℕ) (first : Moment)
-    (past : List Moment) → contents ≡ Some bytes → old ≡ Some (first ∷ past)
-    → IsDraft paths names first
-    → Lastly (IsFree (place_of paths (string_bytes names.new))) new ⊎ Kept
+-- a file was ended whose bytes are known, where they have to be: nothing stands under its first
+-- name, or it has stayed there; and each place but its two stays as it was. Where one was written
+-- straight the disk tells nothing
+abbrev pub IsGone : Paths → Option Names → Option (List Moment) → Option (List Moment) → Type 0
+    → Type 0 → Type 0
+IsGone paths None old new Known Kept = old ≡ None → new ≡ None
+IsGone paths (Some names) old new Known Kept = (first : Moment) (past : List Moment)
+    → old ≡ Some (first ∷ past) → IsDraft paths names first → Known
+    → (Lastly (IsFree (place_of paths (string_bytes names.new))) new ⊎ Kept)
+    × (IsOwn paths names first → (p : ℕ × List ℕ)
+    → p ≢ place_of paths (string_bytes names.new)
+    → p ≢ place_of paths (string_bytes names.place) → Goes (IsSameAt p first) (first ∷ past) new)
+
+-- each of these places stays as it was, but for that of a new file: none stood there at first, nor
+-- does in the end, where the last file that was to be taken away has not stayed
+pub record IsTidied (Other : ℕ × List ℕ → Type 0) (first : Moment) (past : List Moment)
+    (told : Option (List Moment)) (Kept : Type 0) : Type 0 where
+  pub draft : ℕ × List ℕ
+  pub free : first.at draft ≡ None
+  pub others : (p : ℕ × List ℕ) → p ≢ draft → Other p → Goes (IsSameAt p first) (first ∷ past) told
+  pub gone : Lastly (IsFree draft) told ⊎ Kept
+
+-- where a disk tells its moments, so it is of all places
+abbrev pub IsTidy : Option (List Moment) → Option (List Moment) → Type 0 → Type 0
+IsTidy old new Kept = (first : Moment) (past : List Moment) → old ≡ Some (first ∷ past)
+    → (new ≡ old) ⊎ IsTidied (λ _. Unit {0}) first past new Kept
+
+-- .. and the place to which a path leads stays as it was
+abbrev pub IsLeft : Paths → List ℕ → Option (List Moment) → Option (List Moment) → Type 0 → Type 0
+IsLeft paths path old new Kept = PathStays paths path old new × IsTidy old new Kept
+
+-- .. or that one may have changed; or, as no file can take that place, the old one was
+-- emptied, to be written straight, and the disk tells nothing more
+abbrev pub IsTidyBesides : Paths → List ℕ → Option (List Moment) → Option (List Moment) → Type 0
+    → Type 0
+IsTidyBesides paths path old new Kept = (first : Moment) (past : List Moment)
+    → old ≡ Some (first ∷ past) → ((new ≡ None) × IsFixed paths path) ⊎ (new ≡ old)
+    ⊎ IsTidied (λ p. (to : List ℕ) → LeadsTo paths path to → p ≢ place_of paths to)
+    first past new Kept

@@ -1,10 +1,9 @@
 //! A disk, as far as it is needed to write a file.
-ghost use Rattle.std.specs.Prelude.{◌≡◌, ℕ, true, false, IsTrue, List, [], Option, Some, None};
+ghost use Rattle.std.specs.Prelude.{◌≡◌, ℕ, true, false, IsTrue, List, Option, Some, None};
 ghost use Rattle.std.specs.Prelude.{IfOk, OnOk, OnErr};
-ghost use Rattle.std.specs.String.{string_bytes};
-ghost use Rattle.whole_file.specs.Disks.{Moment, Steps, Settles, Renames, Removes, SettlesNames};
+ghost use Rattle.whole_file.specs.Disks.{Moment, Steps, Settles, Renames, Removes};
 ghost use Rattle.whole_file.specs.Paths.{Paths, ReadsBehind, folder_of, place_of};
-ghost use Rattle.whole_file.specs.Calls.{AnswersLink, AnswersMade, AnswersSettled, IsAllowed};
+ghost use Rattle.whole_file.specs.Calls.{AnswersLink, AnswersMade, AnswersSettled, Closes, IsAllowed};
 
 use std::alloc::{AllocError, Global};
 use std::io;
@@ -38,9 +37,6 @@ pub enum Link {
 
     /// No link.
     Not,
-
-    /// A link that can't be followed.
-    Broken,
 }
 
 /// How the making of a file ended.
@@ -77,6 +73,9 @@ pub trait Disk {
 
     // the last file that was to be taken away has stayed
     ghost kept: { Self → Type 0 };
+
+    // the last file that was closed has these bytes, made sure of where it is a plain one
+    ghost closed: { Self → List ℕ → Type 0 };
 
     /// Opens a file to be written; none where there is none.
     fn open(&mut self, path: &str) -> Result<Option<Self::File>, DiskFault>
@@ -160,7 +159,8 @@ pub trait Disk {
     /// closes it.
     fn close(&mut self, file: Self::File) -> Result<(), DiskFault>
         ensures paths { paths self.new ≡ paths self.old }
-        ensures stays { told self.old ≡ None → told self.new ≡ None };
+        ensures stays { told self.old ≡ None → told self.new ≡ None }
+        ensures closed { Closes result (Self.File.contents file) (closed self.new) };
 
     /// Gives a file another name, which may have been another file's.
     fn rename(&mut self, from: &str, to: &str) -> Result<(), DiskFault>

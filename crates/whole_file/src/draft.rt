@@ -1,15 +1,15 @@
 //! A file that is written as a whole: into a new file beside it, which takes its place once it is
 //! complete. A run that fails or is killed leaves the old file as it was.
-ghost use Rattle.std.specs.Prelude.{◌≡◌, ◌⊎◌, ℕ, List, [], ◌∷◌, Option, Some, None, Ok, Err};
-ghost use Rattle.std.specs.Prelude.{IfOk, IfErr, IfSome, IsSome, IsSomeAnd, OnOk, OnErr, MatchOption};
+ghost use Rattle.std.specs.Prelude.{◌≡◌, ◌⊎◌, ℕ, List, ◌∷◌, Option, Some, None, Ok, Err};
+ghost use Rattle.std.specs.Prelude.{IfOk, IfErr, IfSome, IsSome, IsSomeAnd, OnOk, OnErr, MatchOption, MatchResult};
 ghost use Rattle.std.specs.Io.KnownBytes.{Keeps};
 ghost use Rattle.std.specs.String.{string_bytes};
 ghost use Rattle.std.specs.Io.Buffered.{writer_contents};
-ghost use Rattle.whole_file.specs.Disks.{Moment, Goes, IsSameAt, IsFree, Lastly, Steps, Settles, Renames};
+ghost use Rattle.whole_file.specs.Disks.{Moment, IsStill, Steps, Settles, Renames};
 ghost use Rattle.whole_file.specs.Disks.{Removes, StaysAt};
-ghost use Rattle.whole_file.specs.Calls.{AnswersBeside, AnswersSettled, IsAllowed, RemovesOrStays};
-ghost use Rattle.whole_file.specs.Drafts.{IsDraft, IsReady, IsBegun, IsDropped, IsGone, IsPut, Finishes};
-ghost use Rattle.whole_file.specs.Paths.{IsFixedOn, LeadsTo, PathStays, is_open_name, place_of};
+ghost use Rattle.whole_file.specs.Calls.{AnswersBeside, AnswersSettled, Closes, IsAllowed, RemovesOrStays};
+ghost use Rattle.whole_file.specs.Drafts.{IsReady, IsBegun, IsDropped, IsGone, IsLeft, IsPut, IsTidy};
+ghost use Rattle.whole_file.specs.Paths.{IsFixedOn, LeadsTo, is_open_name, place_of};
 ghost use Rattle.whole_file.specs.declared.fault.DraftFault.TheVariants.{Write};
 
 use crate::disk::{Disk, DiskFault, FileFacts, Link, Made};
@@ -67,8 +67,8 @@ pub fn begin<D: Disk>(disk: &mut D, alloc: Global, path: &str) -> Result<Draft<D
     ensures paths { D.paths disk.new ≡ D.paths disk.old }
     ensures begun { IfOk result (λ draft. IsBegun (D.paths disk.old) path.now draft.names
         (writer_contents D.File.contents draft.writer) (D.told disk.old) (D.told disk.new)) }
-    ensures stays { OnErr result
-        (PathStays (D.paths disk.old) path.now (D.told disk.old) (D.told disk.new)) }
+    ensures stays { OnErr result (IsLeft (D.paths disk.old) path.now
+        (D.told disk.old) (D.told disk.new) (D.kept disk.new)) }
 {
     'tries: for _ in 0..TRIES {
         match begin_once(disk, alloc, path) {
@@ -88,11 +88,11 @@ fn begin_once<D: Disk>(
 ) -> Result<Option<Draft<D>>, DraftFault>
     ensures paths { D.paths disk.new ≡ D.paths disk.old }
     ensures begun { IfOk result (λ draft. MatchOption draft
-        (PathStays (D.paths disk.old) path.now (D.told disk.old) (D.told disk.new))
+        (IsStill (D.told disk.old) (D.told disk.new))
         (λ draft. IsBegun (D.paths disk.old) path.now draft.names
         (writer_contents D.File.contents draft.writer) (D.told disk.old) (D.told disk.new))) }
-    ensures stays { OnErr result
-        (PathStays (D.paths disk.old) path.now (D.told disk.old) (D.told disk.new)) }
+    ensures stays { OnErr result (IsLeft (D.paths disk.old) path.now
+        (D.told disk.old) (D.told disk.new) (D.kept disk.new)) }
 {
     match disk.open(path) {
         Ok(Some(old)) => match begin_over(disk, alloc, path, old) {
@@ -116,11 +116,11 @@ fn begin_over<D: Disk>(
 ) -> Result<Option<Draft<D>>, DraftFault>
     ensures paths { D.paths disk.new ≡ D.paths disk.old }
     ensures begun { IfOk result (λ draft. MatchOption draft
-        (PathStays (D.paths disk.old) path.now (D.told disk.old) (D.told disk.new))
+        (IsStill (D.told disk.old) (D.told disk.new))
         (λ draft. IsBegun (D.paths disk.old) path.now draft.names
         (writer_contents D.File.contents draft.writer) (D.told disk.old) (D.told disk.new))) }
-    ensures stays { OnErr result
-        (PathStays (D.paths disk.old) path.now (D.told disk.old) (D.told disk.new)) }
+    ensures stays { OnErr result (IsLeft (D.paths disk.old) path.now
+        (D.told disk.old) (D.told disk.new) (D.kept disk.new)) }
 {
     let Ok(told) = disk.facts(&old) else {
         return Err(DraftFault::Open);
@@ -154,7 +154,11 @@ fn begin_in_place<D: Disk>(
         (writer_contents D.File.contents draft.writer) (D.told disk.old) (D.told disk.new)))) }
     ensures fixed { IfOk result (λ begun. MatchOption begun
         (IsFixedOn (D.paths disk.old) path.now (D.told disk.old)) (λ _. Unit {0})) }
-    ensures stays { PathStays (D.paths disk.old) path.now (D.told disk.old) (D.told disk.new) }
+    ensures still { IfOk result (λ begun. MatchOption begun
+        (IsStill (D.told disk.old) (D.told disk.new)) (λ draft. MatchOption draft
+        (IsStill (D.told disk.old) (D.told disk.new)) (λ _. Unit {0}))) }
+    ensures stays { OnErr result (IsLeft (D.paths disk.old) path.now
+        (D.told disk.old) (D.told disk.new) (D.kept disk.new)) }
 {
     let Some(place) = find_place(disk, alloc, path)? else {
         return Ok(None);
@@ -219,7 +223,8 @@ fn begin_anew<D: Disk>(disk: &mut D, alloc: Global, path: &str) -> Result<Draft<
     ensures paths { D.paths disk.new ≡ D.paths disk.old }
     ensures begun { IfOk result (λ draft. IsBegun (D.paths disk.old) path.now draft.names
         (writer_contents D.File.contents draft.writer) (D.told disk.old) (D.told disk.new)) }
-    ensures stays { PathStays (D.paths disk.old) path.now (D.told disk.old) (D.told disk.new) }
+    ensures stays { OnErr result (IsLeft (D.paths disk.old) path.now
+        (D.told disk.old) (D.told disk.new) (D.kept disk.new)) }
 {
     if path.is_empty() {
         return Err(DraftFault::Open);
@@ -250,8 +255,9 @@ fn begin_beside<D: Disk>(
         (D.told disk.old) (D.told disk.new)))) }
     ensures some { (first : Moment) (past : List Moment) → D.told disk.old ≡ Some (first ∷ past)
         → IfOk result (λ draft. IsSome draft) }
-    ensures stays { StaysAt (place_of (D.paths disk.old) (string_bytes place))
-        (D.told disk.old) (D.told disk.new) }
+    ensures stays { OnErr result (StaysAt (place_of (D.paths disk.old) (string_bytes place))
+        (D.told disk.old) (D.told disk.new)) }
+    ensures others { OnErr result (IsTidy (D.told disk.old) (D.told disk.new) (D.kept disk.new)) }
 {
     let Some((file, names)) = create_beside(disk, alloc, place, 0o600)? else {
         return Ok(None);
@@ -273,8 +279,7 @@ fn begin_beside<D: Disk>(
 }
 
 /// The path whose place a new file takes: the given one, or the one to which links lead from there,
-/// also where no file has it. None for the name of an open file, and where a link can't be
-/// followed.
+/// also where no file has it. None for the name of an open file, and behind too many links.
 fn find_place<D: Disk>(
     disk: &mut D,
     alloc: Global,
@@ -296,7 +301,6 @@ fn find_place<D: Disk>(
         match disk.link(alloc, place.as_str()) {
             Ok(Link::To(target)) => place = linked(alloc, place.as_str(), target.as_str())?,
             Ok(Link::Not) => return Ok(Some(place)),
-            Ok(Link::Broken) => return Ok(None),
             Err(_) => return Err(DraftFault::Open),
         }
     }
@@ -320,8 +324,9 @@ fn create_beside<D: Disk>(
     mode: u32,
 ) -> Result<Option<(D::File, Names)>, DraftFault>
     ensures paths { D.paths disk.new ≡ D.paths disk.old }
-    ensures stays { StaysAt (place_of (D.paths disk.old) (string_bytes place))
-        (D.told disk.old) (D.told disk.new) }
+    ensures same { MatchResult result
+        (λ made. MatchOption made (D.told disk.new ≡ D.told disk.old) (λ _. Unit {0}))
+        (λ _. D.told disk.new ≡ D.told disk.old) }
     ensures ready { IfOk result (λ made. IfSome made (λ made.
         (string_bytes made.1.place ≡ string_bytes place)
         × IsReady (D.paths disk.old) made.1 (D.File.contents made.0)
@@ -428,9 +433,11 @@ impl<D: Disk> Draft<D> {
             result }
         ensures stays { OnErr written
             (IsDropped (D.paths disk.old) self.names (D.told disk.old) (D.told disk.new)) }
-        ensures gone { IsGone (D.paths disk.old) self.names
-            (writer_contents D.File.contents self.writer) (D.told disk.old) (D.told disk.new)
+        ensures gone { IsGone (D.paths disk.old) self.names (D.told disk.old) (D.told disk.new)
+            (OnOk written (IsSome (writer_contents D.File.contents self.writer)))
             (D.kept disk.new) }
+        ensures closed { self.names ≡ None
+            → Closes result (writer_contents D.File.contents self.writer) (D.closed disk.new) }
     {
         let Draft { writer, names } = self;
         match names {
@@ -450,22 +457,12 @@ fn end_beside<D: Disk>(
     ensures paths { D.paths disk.new ≡ D.paths disk.old }
     ensures fault { IfErr written (λ fault. result ≡ Err fault) }
     ensures closing { IfOk written (λ _. IfErr result (λ fault. fault ≡ Write)) }
-    ensures put { (bytes : List ℕ) (first : Moment) (past : List Moment)
-        → writer_contents D.File.contents writer ≡ Some bytes
-        → D.told disk.old ≡ Some (first ∷ past)
-        → IsDraft (D.paths disk.old) names.now first
-        → Finishes (D.paths disk.old) (string_bytes names.now.place) bytes first past
-        (D.told disk.new) result }
-    ensures stays { OnErr written ((first : Moment) (past : List Moment)
-        → D.told disk.old ≡ Some (first ∷ past) → IsDraft (D.paths disk.old) names.now first
-        → Goes (IsSameAt (place_of (D.paths disk.old) (string_bytes names.now.place)) first)
-        (first ∷ past) (D.told disk.new)) }
-    ensures gone { (bytes : List ℕ) (first : Moment) (past : List Moment)
-        → writer_contents D.File.contents writer ≡ Some bytes
-        → D.told disk.old ≡ Some (first ∷ past)
-        → IsDraft (D.paths disk.old) names.now first
-        → Lastly (IsFree (place_of (D.paths disk.old) (string_bytes names.now.new)))
-        (D.told disk.new) ⊎ D.kept disk.new }
+    ensures put { IsPut (D.paths disk.old) (Some names.now)
+        (writer_contents D.File.contents writer) (D.told disk.old) (D.told disk.new) result }
+    ensures stays { OnErr written
+        (IsDropped (D.paths disk.old) (Some names.now) (D.told disk.old) (D.told disk.new)) }
+    ensures gone { IsGone (D.paths disk.old) (Some names.now) (D.told disk.old) (D.told disk.new)
+        (OnOk written (IsSome (writer_contents D.File.contents writer))) (D.kept disk.new) }
 {
     match written {
         Ok(()) => put(disk, names, writer),
@@ -487,6 +484,7 @@ fn end_straight<D: Disk>(
     ensures fault { IfErr written (λ fault. result ≡ Err fault) }
     ensures closing { IfOk written (λ _. IfErr result (λ fault. fault ≡ Write)) }
     ensures stays { D.told disk.old ≡ None → D.told disk.new ≡ None }
+    ensures closed { Closes result (writer_contents D.File.contents writer) (D.closed disk.new) }
 {
     match written {
         Ok(()) => close(disk, writer),
@@ -495,10 +493,12 @@ fn end_straight<D: Disk>(
 }
 
 /// Brings what was written straight into an old file to the disk.
+#[tactic(auto, using(crate::proofs::Known::known_kept))]
 fn close<D: Disk>(disk: &mut D, writer: BufWriter<D::File>) -> Result<(), DraftFault>
     ensures paths { D.paths disk.new ≡ D.paths disk.old }
     ensures fault { IfErr result (λ fault. fault ≡ Write) }
     ensures stays { D.told disk.old ≡ None → D.told disk.new ≡ None }
+    ensures closed { Closes result (writer_contents D.File.contents writer) (D.closed disk.new) }
 {
     let Ok(file) = writer.into_inner() else {
         return Err(DraftFault::Write);
@@ -591,18 +591,10 @@ fn settle_names<D: Disk>(disk: &mut D, names: &Names) -> Result<bool, DraftFault
 /// Puts a new file that was written to its end in its place; where that fails, takes it away.
 fn put<D: Disk>(disk: &mut D, names: &Names, writer: BufWriter<D::File>) -> Result<(), DraftFault>
     ensures paths { D.paths disk.new ≡ D.paths disk.old }
-    ensures put { (bytes : List ℕ) (first : Moment) (past : List Moment)
-        → writer_contents D.File.contents writer ≡ Some bytes
-        → D.told disk.old ≡ Some (first ∷ past)
-        → IsDraft (D.paths disk.old) names.now first
-        → Finishes (D.paths disk.old) (string_bytes names.now.place) bytes first past
-        (D.told disk.new) result }
-    ensures gone { (bytes : List ℕ) (first : Moment) (past : List Moment)
-        → writer_contents D.File.contents writer ≡ Some bytes
-        → D.told disk.old ≡ Some (first ∷ past)
-        → IsDraft (D.paths disk.old) names.now first
-        → Lastly (IsFree (place_of (D.paths disk.old) (string_bytes names.now.new)))
-        (D.told disk.new) ⊎ D.kept disk.new }
+    ensures put { IsPut (D.paths disk.old) (Some names.now)
+        (writer_contents D.File.contents writer) (D.told disk.old) (D.told disk.new) result }
+    ensures gone { IsGone (D.paths disk.old) (Some names.now) (D.told disk.old) (D.told disk.new)
+        (IsSome (writer_contents D.File.contents writer)) (D.kept disk.new) }
     ensures fault { IfErr result (λ fault. fault ≡ Write) }
 {
     match settle(disk, names, writer) {

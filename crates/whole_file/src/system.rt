@@ -62,6 +62,8 @@ where
 
     ghost kept = { λ _. Unit {0} };
 
+    ghost closed = { λ _ _. Unit {0} };
+
     fn open(&mut self, path: &str) -> Result<Option<R::File>, DiskFault> {
         match OpenOptions::new().write(true).open(self.files, path) {
             Ok(file) => Ok(Some(file)),
@@ -94,7 +96,6 @@ where
             Ok(target) => Ok(Link::To(target.into_string())),
             Err(error) => match error.kind() {
                 ErrorKind::InvalidInput | ErrorKind::NotFound => Ok(Link::Not),
-                ErrorKind::InvalidData => Ok(Link::Broken),
                 _ => Err(DiskFault),
             },
         }

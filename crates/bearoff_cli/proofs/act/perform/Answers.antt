@@ -12,14 +12,15 @@ use Rattle.bearoff_cli.proofs.KeptFiles.{memory_ends}
 use Rattle.bearoff_cli.proofs.act.perform.Goals as goal
 
 pub returns-in-Err-clause-ends : goal.returns-in-Err-clause-ends
-returns-in-Err-clause-ends g c asked asks = memory_ends _ _ _ _ _ _ asked
+returns-in-Err-clause-ends g c asked asks = memory_ends _ _ _ _ _ _ _ asked
 
 pub returns-in-Ok-clause-ends : goal.returns-in-Ok-clause-ends
 returns-in-Ok-clause-ends g c asked asks =
     let it = c.fulfil.ensures in
     subst (EndsAs g.D.Reader.Read.remaining (writer_contents {A = Global} g.D.File.Write.contents)
     (g.D.Disk.paths c.args.disk.now) (g.D.Disk.told c.args.disk.now)
-    (g.D.Disk.told c.fulfil.new.disk) (g.I.Read.remaining c.args.input.now)
+    (g.D.Disk.told c.fulfil.new.disk) (g.D.Disk.kept c.fulfil.new.disk)
+    (g.I.Read.remaining c.args.input.now)
     (g.I.Read.remaining c.fulfil.new.input) (g.O.Write.contents c.args.output.now)
     (g.O.Write.contents c.fulfil.new.output) c.fulfil.result)
     (subst (λ r. IfOk r (IsFor asked)) c.in-Ok.is (c.read_words.ensures.usual asked asks).0)
@@ -51,7 +52,7 @@ returns-in-Ok-told_of_shown-clause-ends g c asked asks =
     absurd (subst (λ b. IsNot b) (sym c.if-eq.false ∙ equal) tt)
 
 pub returns-in-Err-told_of_shown-clause-ends : goal.returns-in-Err-told_of_shown-clause-ends
-returns-in-Err-told_of_shown-clause-ends g c asked asks = memory_ends _ _ _ _ _ _ asked
+returns-in-Err-told_of_shown-clause-ends g c asked asks = memory_ends _ _ _ _ _ _ _ asked
 
 -- .. and ask for no help
 pub returns-in-Err-3-clause-ends : goal.returns-in-Err-3-clause-ends

@@ -4,7 +4,7 @@ use Rattle.std.specs.Prelude.{IsSomeAnd}
 use Rattle.std.specs.Io.Buffered.{writer_contents}
 use Rattle.std.specs.String.{string_bytes}
 use Rattle.whole_file.specs.Drafts.{IsReady}
-use Rattle.whole_file.proofs.Stays.{stays_dropped, ready_kept, told_on}
+use Rattle.whole_file.proofs.Stays.{stays_dropped, tidy_dropped, ready_kept}
 use Rattle.whole_file.proofs.draft.begin_beside.Goals as goal
 
 pub returns-in-Ok-clause-ready : goal.returns-in-Ok-clause-ready
@@ -23,30 +23,38 @@ returns-in-Ok-clause-ready g c =
 pub returns-in-Err-drafted-clause-stays : goal.returns-in-Err-drafted-clause-stays
 returns-in-Err-drafted-clause-stays g c =
     let made = rw c.in-Some.is at c.in_ok-file.ensures.ready in
-    stays_dropped _ c.in-Some.names _ _ _ _ _ made.0 c.create_beside.ensures.stays made.1
+    stays_dropped _ c.in-Some.names _ _ _ _ _ made.0 made.1
     (rw (c.make_like.ensures.paths ∙ c.create_beside.ensures.paths, c.make_like.ensures.stays) at
     c.in-Err-drafted.ensures.gone)
 
-pub returns-in-Ok-false-clause-stays : goal.returns-in-Ok-false-clause-stays
-returns-in-Ok-false-clause-stays g c =
+pub returns-in-Err-drafted-clause-others : goal.returns-in-Err-drafted-clause-others
+returns-in-Err-drafted-clause-others g c =
     let made = rw c.in-Some.is at c.in_ok-file.ensures.ready in
-    stays_dropped _ c.in-Some.names _ _ _ _ _ made.0 c.create_beside.ensures.stays made.1
-    (rw (c.make_like.ensures.paths ∙ c.create_beside.ensures.paths, c.make_like.ensures.stays) at
-    c.discard.ensures.gone)
+    let same = c.make_like.ensures.paths ∙ c.create_beside.ensures.paths in
+    tidy_dropped _ c.in-Some.names _ _ _ _ _ made.1
+    (rw (same, c.make_like.ensures.stays) at c.in-Err-drafted.ensures.gone)
+    (rw (same, c.make_like.ensures.stays) at c.in-Err-drafted.ensures.kept)
 
 pub returns-in-Err-clause-stays : goal.returns-in-Err-clause-stays
 returns-in-Err-clause-stays g c =
     let made = rw c.in-Some.is at c.in_ok-file.ensures.ready in
-    stays_dropped _ c.in-Some.names _ _ _ _ _ made.0 c.create_beside.ensures.stays made.1
+    stays_dropped _ c.in-Some.names _ _ _ _ _ made.0 made.1
     (rw (c.make_like.ensures.paths ∙ c.create_beside.ensures.paths, c.make_like.ensures.stays) at
     c.discard-in-Err.ensures.gone)
+
+pub returns-in-Err-clause-others : goal.returns-in-Err-clause-others
+returns-in-Err-clause-others g c =
+    let made = rw c.in-Some.is at c.in_ok-file.ensures.ready in
+    let same = c.make_like.ensures.paths ∙ c.create_beside.ensures.paths in
+    tidy_dropped _ c.in-Some.names _ _ _ _ _ made.1
+    (rw (same, c.make_like.ensures.stays) at c.discard-in-Err.ensures.gone)
+    (rw (same, c.make_like.ensures.stays) at c.discard-in-Err.ensures.kept)
 
 -- a disk that tells its moments makes each file like another
 pub returns-in-Ok-false-clause-some : goal.returns-in-Ok-false-clause-some
 returns-in-Ok-false-clause-some g c first past told =
-    let goes = c.create_beside.ensures.stays first past told in
-    let mid = g.D.Disk.told c.create_beside.new.disk in
-    let last = told_on first past goes.since mid goes.told_is in
-    let like = c.in-Ok-false.ensures.like (last.0 ∷ last.1) last.2 in
+    let made = rw c.in-Some.is at c.in_ok-file.ensures.ready in
+    let alone = (made.1 first past told).2 in
+    let like = c.in-Ok-false.ensures.like (alone.now ∷ first ∷ past) alone.told_is in
     let test = c.in-Ok-false.field-0-test in
     cc
