@@ -1,11 +1,18 @@
 -- What is known of an open file of any version, and the book that it says.
-use Rattle.std.proofs.Common.{◌≡◌, ◌<◌, ◌^◌, ℕ, List, sym, ap, arith, eq-eqb, ne_eqb}
+use Rattle.std.proofs.Common.{◌≡◌, ◌<◌, ◌≤◌, ◌^◌, ℕ, List, refl, sym, ap, arith, eq-eqb, ne_eqb}
 use mathlib.Core.Logic.{∥∥₁_map}
 use Rattle.race_model.specs.Versions.{Version, full, compact, version_number}
-use Rattle.race_model.specs.Files.{version_of, layout_of, book_of}
+use Rattle.race_model.specs.Books.{IsRightBook}
+use Rattle.race_model.specs.Files.{version_of, bound_of, layout_of, book_of}
+use Rattle.race_model.specs.LocalEquations.{IsLong}
 use Rattle.race_model.specs.BoardFiles.{board_layout, board_book}
 use Rattle.race_model.specs.RightFiles.{kind_by, kind_of, IsRightDatabase, IsRightBoard}
+use Rattle.race_model.proofs.Books.FromLocal.{whole_board}
 use Rattle.race_model.proofs.FirstFaults.HeaderFacts.{stated_number}
+use Rattle.race_model.proofs.RightFiles.Right.{short}
+use Rattle.db_layout.specs.declared.stated.Kind.{Kind}
+use Rattle.db_layout.specs.declared.stated.Kind.TheVariants.{Database, Board}
+use Rattle.epc_query.specs.Kinds.{book_as, IsRightAs}
 use Rattle.bearoff_c.specs.FileBooks.{file_book, version_in}
 use Rattle.bearoff_c.proofs.KnownRight.{right_known}
 use Rattle.bearoff_c.proofs.OpenedBoards.{file_known}
@@ -21,6 +28,24 @@ pub board_file_book : (f : List ℕ) → version_in f ≡ 3 → board_book f ≡
 unfolding kind_of
 board_file_book f is =
     sym (ap (λ b. (kind_by b (version_of f)).book f) (eq-eqb (version_in f) 3 is))
+
+-- what a right file of a kind says is a right book
+pub right_book : (kind : Kind) (f : List ℕ) → IsRightAs kind f → IsRightBook (book_as kind f)
+right_book Database f right = right.book
+right_book Board f right = right.book
+
+-- .. in which no game is longer than what its numbers are counted over
+pub long_book : (kind : Kind) (f : List ℕ) → IsRightAs kind f → IsLong (book_as kind f)
+long_book Database f right = short f right.file
+long_book Board f right = whole_board (board_book f) refl
+
+-- .. and whose bound is at most that of the whole board
+pub most_bound : (kind : Kind) (f : List ℕ) → IsRightAs kind f → bound_of f ≤ 90
+most_bound Database f right = low (version_of f) right.file.bounded where
+  low : (version : Version) → bound_of f ≤ (layout_of version).greatest → bound_of f ≤ 90
+  low full le = omega (arith, le)
+  low compact le = omega (arith, le)
+most_bound Board f right = right.file.bounded
 
 -- the numbers of the versions have two bytes
 two_bytes : (version : Version) → version_number version < 2 ^ 16

@@ -2,24 +2,22 @@
 use Rattle.std.specs.Prelude.{◌≡◌, ℕ, suc, ◌+◌, ◌*◌, List, min, sum_by}
 use Rattle.std.specs.List.{range_with_len}
 use Rattle.std.specs.Int.{w16, from_be_bytes}
-use Rattle.race_model.specs.Files.{bytes_at, bound_of, book_of}
+use Rattle.race_model.specs.Files.{bytes_at, bound_of}
 use Rattle.race_model.specs.Positions.{Board}
 use Rattle.race_model.specs.Strategies.{count_over}
 use Rattle.race_model.specs.Books.{Book, whole_in, follow_in}
-use Rattle.race_model.specs.BoardFiles.{board_book}
 use Rattle.race_model.specs.RightFiles.{kind_of, IsRightDatabase, IsRightBoard}
 use Rattle.race_model.specs.Fractions.{IsFraction, IsThousandths}
-use Rattle.bearoff_c.specs.declared.opened.OpenedFile.{OpenedFile}
-use Rattle.bearoff_c.specs.declared.opened.OpenedFile.TheVariants.{Database as OfDatabase, Board as OfBoard}
+use Rattle.db_layout.specs.declared.stated.Kind.{Kind}
+use Rattle.epc_query.specs.Kinds.{book_as}
 
 -- what a file says, which is the book of the kind that its header states
 abbrev pub file_book : List ℕ → Book
 file_book f = (kind_of f).book f
 
--- .. and what an opened one says
-abbrev pub book_by : OpenedFile → Book
-book_by (OfDatabase f) = book_of f
-book_by (OfBoard f) = board_book f
+-- .. and what an opened one says, which is a kind and bytes
+abbrev pub book_by : Kind × List ℕ → Book
+book_by opened = book_as opened.0 opened.1
 
 -- the most rolls that a book counts over, which are 22 for a database and 33 for a board file
 abbrev pub rolls_in : Book → ℕ

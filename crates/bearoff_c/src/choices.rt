@@ -19,6 +19,7 @@ use crate::positions::Counts;
 use crate::ranks::find_in;
 use crate::rolls::LongMean;
 use crate::statuses::{OK, Refusal, SHORT};
+use db_layout::Kind;
 use epc_query::RankedChoice;
 use home_board::Position;
 use legal_plays::{Roll, play_to};
@@ -165,13 +166,13 @@ fn tell_results(
         drop count.new room.new ≡ drop count.new room.old) }
     ensures left { IfSome result (λ status. ¬ (status ≡ 0) → room.new ≡ room.old) }
 {
-    match opened {
-        OpenedFile::Database(database) => {
-            let choices = database.moves(&turn.position, turn.roll)?;
+    match opened.kind() {
+        Kind::Database => {
+            let choices = opened.database().moves(&turn.position, turn.roll)?;
             Some(tell_choices(choices.as_slice(), room, count))
         }
-        OpenedFile::Board(board) => {
-            let choices = board.moves(&turn.position, turn.roll)?;
+        Kind::Board => {
+            let choices = opened.board().moves(&turn.position, turn.roll)?;
             Some(tell_choices(choices.as_slice(), room, count))
         }
     }

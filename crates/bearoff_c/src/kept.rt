@@ -6,8 +6,8 @@ ghost use Rattle.bearoff_c.specs.Refusals.{open_refusal, refusal_in};
 
 use crate::opened::OpenedFile;
 use crate::statuses::Refusal;
-use db_layout::BOARD_VERSION;
-use epc_query::{Accepted, Board, Database};
+use db_layout::{BOARD_VERSION, Kind};
+use epc_query::Accepted;
 use ranking::RankTable;
 
 /// A file of any version in bytes that the caller keeps. It is open where `bearoff_open` has
@@ -52,8 +52,8 @@ impl<'a> File<'a> {
             bound: self.bound,
         };
         if self.version != BOARD_VERSION {
-            return Ok(OpenedFile::Database(Database::kept(self.bytes, accepted, &self.ranks)));
+            return Ok(OpenedFile::kept(Kind::Database, self.bytes, accepted, &self.ranks));
         }
-        Ok(OpenedFile::Board(Board::kept(self.bytes, accepted, &self.ranks)))
+        Ok(OpenedFile::kept(Kind::Board, self.bytes, accepted, &self.ranks))
     }
 }

@@ -9,6 +9,7 @@ ghost use Rattle.bearoff_c.specs.Refusals.{open_refusal, status_of};
 use crate::kept::File;
 use crate::opened::OpenedFile;
 use crate::statuses::{OK, Refusal, SHORT};
+use db_layout::Kind;
 use epc_query::BoardText;
 use query_text::Text;
 
@@ -52,17 +53,17 @@ fn tell_line(opened: &OpenedFile<'_>, line: &[u8], text: &mut [u8], needed: &mut
         × IsReplyIn (book_by opened.now) line.now (reply ++ 10 ∷ []) }
     ensures most { needed.new ≤ 16642 }
 {
-    match opened {
-        OpenedFile::Database(database) => {
+    match opened.kind() {
+        Kind::Database => {
             let mut reply = Text::new();
-            match database.answer(line, &mut reply) {
+            match opened.database().answer(line, &mut reply) {
                 Some(()) => put_text(reply.as_str().as_bytes(), text, needed),
                 None => Refusal::Changed.status(),
             }
         }
-        OpenedFile::Board(board) => {
+        Kind::Board => {
             let mut reply = BoardText::new();
-            match board.answer(line, &mut reply) {
+            match opened.board().answer(line, &mut reply) {
                 Some(()) => put_text(reply.as_str().as_bytes(), text, needed),
                 None => Refusal::Changed.status(),
             }

@@ -7,23 +7,28 @@ ghost use Rattle.race_model.specs.Plays.{Legal};
 ghost use Rattle.race_model.specs.FirstPlays.{IsFirstPlay};
 ghost use Rattle.race_model.specs.Ranks.{rank as rank_of, at_rank, count_to};
 ghost use Rattle.race_model.specs.Fractions.{IsFraction, IsThousandths};
+ghost use Rattle.race_model.specs.BoardFiles.{board_book};
+ghost use Rattle.race_model.specs.Files.{book_of};
 ghost use Rattle.race_model.specs.Books.{mean_in, recorded_in, share_in, whole_in, IsRightBook};
 ghost use Rattle.race_model.specs.LocalEquations.{IsLong};
 ghost use Rattle.race_model.specs.Losses.{loss_in, IsLossIn};
 ghost use Rattle.legal_plays.specs.MoveLists.{moves_of};
 ghost use Rattle.ranking.specs.Tables.{IsRankTable};
+ghost use Rattle.epc_query.specs.Kinds.{IsAcceptedAs};
 ghost use Rattle.bearoff_c.specs.FileBooks.{book_by, rolls_in};
 ghost use Rattle.bearoff_c.specs.Longs.{long_number_of};
 
 use crate::distributions::{put_shares, shares_by};
 use crate::numbers::{Long, LongFraction, RoundedLong};
 use crate::rolls::LongMean;
-use epc_query::{Board, Database, MOST_ROLLS};
+use db_layout::Kind;
+use epc_query::{Accepted, Board, Database, MOST_ROLLS};
 use fixed_fraction::{WHOLE, Wide};
 use home_board::Position;
 use legal_plays::{Play, Roll};
 use race_model::laws;
 use ranking::RankTable;
+use std::marker::Model;
 
 /// The most rolls that a game of a database takes.
 const MOST_OF_DATABASE: u8 = 22;
@@ -31,15 +36,71 @@ const MOST_OF_DATABASE: u8 = 22;
 /// A database or a board file, in bytes that were accepted. What may be missing of an answer is
 /// missing only where the bytes were changed since then.
 #[derive(Drop)]
-pub enum OpenedFile<'a> {
-    /// A database, of version 1 or 2.
-    Database(Database<'a>),
+pub struct OpenedFile<'a> {
+    kind: Kind,
+    bytes: &'a [u8],
+    accepted: Accepted,
+    ranks: &'a RankTable,
+}
 
-    /// A board file, of version 3.
-    Board(Board<'a>),
+// Clauses see the kind and the bytes.
+impl<'a> Model for OpenedFile<'a> {
+    ghost use Rattle.std.specs.Prelude.{ℕ, List};
+    ghost use Rattle.ranking.specs.Tables.{IsRankTable};
+    ghost use Rattle.db_layout.specs.declared.stated.Kind.{Kind};
+    ghost use Rattle.epc_query.specs.Kinds.{IsAcceptedAs};
+
+    ghost Value = { Kind × List ℕ };
+
+    ghost view = { λ opened. (opened.kind, opened.bytes.now) };
+
+    ghost invariant = { λ opened.
+        IsAcceptedAs opened.kind opened.bytes.now opened.accepted
+        × IsRankTable opened.ranks.now };
 }
 
 impl<'a> OpenedFile<'a> {
+    /// What bytes say that were accepted as a file of this kind, by what was kept of that.
+    pub fn kept(
+        kind: Kind,
+        bytes: &'a [u8],
+        accepted: Accepted,
+        ranks: &'a RankTable,
+    ) -> OpenedFile<'a>
+        requires { IsAcceptedAs kind bytes.now accepted × IsRankTable ranks.now }
+        ensures { result ≡ (kind, bytes.now) }
+    {
+        OpenedFile {
+            kind,
+            bytes,
+            accepted,
+            ranks,
+        }
+    }
+
+    /// The kind of the file.
+    pub fn kind(&self) -> Kind
+        ensures { result ≡ self.now.0 }
+    {
+        self.kind
+    }
+
+    /// The file as a database, which it is.
+    pub fn database(&self) -> Database<'a>
+        requires { self.now.0 ≡ Kind.Database }
+        ensures { book_by self.now ≡ book_of result }
+    {
+        Database::kept(self.bytes, self.accepted, self.ranks)
+    }
+
+    /// The file as a board file, which it is.
+    pub fn board(&self) -> Board<'a>
+        requires { self.now.0 ≡ Kind.Board }
+        ensures { book_by self.now ≡ board_book result }
+    {
+        Board::kept(self.bytes, self.accepted, self.ranks)
+    }
+
     /// The pip bound, 0 to 90.
     pub fn bound(&self) -> u8
         ensures bound { result ≡ (book_by self.now).bound }
@@ -47,10 +108,7 @@ impl<'a> OpenedFile<'a> {
         ensures long { IsLong (book_by self.now) }
         ensures range { result ≤ 90 }
     {
-        match self {
-            OpenedFile::Database(database) => database.bound(),
-            OpenedFile::Board(board) => board.bound(),
-        }
+        self.accepted.bound
     }
 
     /// The most rolls that a game can take, of which there is a share: 22 or 33.
@@ -58,9 +116,9 @@ impl<'a> OpenedFile<'a> {
         ensures value { result ≡ rolls_in (book_by self.now) }
         ensures range { result ≤ 33 }
     {
-        match self {
-            OpenedFile::Database(_) => MOST_OF_DATABASE,
-            OpenedFile::Board(_) => MOST_ROLLS,
+        match self.kind {
+            Kind::Database => MOST_OF_DATABASE,
+            Kind::Board => MOST_ROLLS,
         }
     }
 
@@ -68,9 +126,9 @@ impl<'a> OpenedFile<'a> {
     pub fn whole(&self) -> Wide
         ensures { result ≡ whole_in (book_by self.now) }
     {
-        match self {
-            OpenedFile::Database(_) => Wide::of(WHOLE),
-            OpenedFile::Board(_) => Wide::of_parts(WHOLE, 0),
+        match self.kind {
+            Kind::Database => Wide::of(WHOLE),
+            Kind::Board => Wide::of_parts(WHOLE, 0),
         }
     }
 
@@ -78,20 +136,14 @@ impl<'a> OpenedFile<'a> {
     pub fn positions(&self) -> u16
         ensures { result ≡ count_to (book_by self.now).bound }
     {
-        match self {
-            OpenedFile::Database(database) => database.positions(),
-            OpenedFile::Board(board) => board.positions(),
-        }
+        self.ranks.count_to(self.accepted.bound)
     }
 
     /// The table of ranks.
     pub fn ranks(&self) -> &RankTable
         ensures { IsRankTable result.now }
     {
-        match self {
-            OpenedFile::Database(database) => database.ranks(),
-            OpenedFile::Board(board) => board.ranks(),
-        }
+        self.ranks
     }
 
     /// The position of a rank that the file has.
@@ -114,9 +166,9 @@ impl<'a> OpenedFile<'a> {
         ensures recorded { IfSome result (λ mean.
             long_number_of mean ≡ mean_in (book_by self.now) position.now) }
     {
-        match self {
-            OpenedFile::Database(database) => Some(database.mean(position)?.long()),
-            OpenedFile::Board(board) => Some(board.mean(position)?.long()),
+        match self.kind {
+            Kind::Database => Some(self.database().mean(position)?.long()),
+            Kind::Board => Some(self.board().mean(position)?.long()),
         }
     }
 
@@ -131,9 +183,9 @@ impl<'a> OpenedFile<'a> {
             (long_number_of rolls.exact.numerator) (long_number_of rolls.exact.denominator)
             rolls.thousandths) }
     {
-        match self {
-            OpenedFile::Database(database) => Some(database.mean(position)?.rolls()),
-            OpenedFile::Board(board) => Some(board.mean(position)?.rolls()),
+        match self.kind {
+            Kind::Database => Some(self.database().mean(position)?.rolls()),
+            Kind::Board => Some(self.board().mean(position)?.rolls()),
         }
     }
 
@@ -148,9 +200,9 @@ impl<'a> OpenedFile<'a> {
             (long_number_of pips.exact.numerator) (long_number_of pips.exact.denominator)
             pips.thousandths) }
     {
-        match self {
-            OpenedFile::Database(database) => Some(database.mean(position)?.epc()),
-            OpenedFile::Board(board) => Some(board.mean(position)?.epc()),
+        match self.kind {
+            Kind::Database => Some(self.database().mean(position)?.epc()),
+            Kind::Board => Some(self.board().mean(position)?.epc()),
         }
     }
 
@@ -165,14 +217,15 @@ impl<'a> OpenedFile<'a> {
         ensures beyond { IfSome result (λ shares. (k : ℕ) → rolls_in (book_by self.now) < k
             → slice_index (map long_number_of shares) k ≡ 0) }
     {
-        match self {
-            OpenedFile::Database(database) => {
+        match self.kind {
+            Kind::Database => {
+                let database = self.database();
                 let _spread = database.spread(position)?;
                 let mut shares = [Long::ZERO; 34];
                 put_shares(&database.record(position), &mut shares);
                 Some(shares)
             }
-            OpenedFile::Board(board) => Some(shares_by(&board.counts(position)?)),
+            Kind::Board => Some(shares_by(&self.board().counts(position)?)),
         }
     }
 
@@ -187,9 +240,9 @@ impl<'a> OpenedFile<'a> {
             IsFirstPlay position.now roll answer.1 (moves_of answer.0.items)) }
         ensures legal { IfSome result (λ answer. Legal position.now roll answer.1) }
     {
-        match self {
-            OpenedFile::Database(database) => database.play(position, roll),
-            OpenedFile::Board(board) => board.play(position, roll),
+        match self.kind {
+            Kind::Database => self.database().play(position, roll),
+            Kind::Board => self.board().play(position, roll),
         }
     }
 
@@ -207,13 +260,13 @@ impl<'a> OpenedFile<'a> {
         laws::law_loss();
         let _bound = self.bound();
         let _pips = position.pips();
-        match self {
-            OpenedFile::Database(database) => {
-                let lost = database.loss(position, roll, to)?;
+        match self.kind {
+            Kind::Database => {
+                let lost = self.database().loss(position, roll, to)?;
                 Some(LongFraction::short(lost))
             }
-            OpenedFile::Board(board) => {
-                let lost = board.loss(position, roll, to)?;
+            Kind::Board => {
+                let lost = self.board().loss(position, roll, to)?;
                 Some(lost.long_fraction())
             }
         }

@@ -17,6 +17,7 @@ use crate::positions::Counts;
 use crate::ranks::{find_in, find_ranks_in};
 use crate::rolls::LongMean;
 use crate::statuses::{OK, Refusal};
+use db_layout::Kind;
 use epc_query::{Database, RisingRecords};
 use home_board::Position;
 
@@ -187,14 +188,15 @@ pub fn tell_by_rank<T: Told>(opened: &OpenedFile<'_>, first: u16, items: &mut [T
         Ok(()) => {}
         Err(refusal) => return refusal.status(),
     }
-    let told = match opened {
-        OpenedFile::Database(database) => {
-            if !records_stand::<T>(database, first, items.len()) {
+    let told = match opened.kind() {
+        Kind::Database => {
+            let database = opened.database();
+            if !records_stand::<T>(&database, first, items.len()) {
                 return Refusal::Changed.status();
             }
-            put_records(database, first, items)
+            put_records(&database, first, items)
         }
-        OpenedFile::Board(_) => {
+        Kind::Board => {
             if !stand::<T>(opened, first, items.len()) {
                 return Refusal::Changed.status();
             }

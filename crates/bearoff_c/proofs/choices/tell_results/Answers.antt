@@ -34,12 +34,12 @@ pub returns-in_ok-choices-in-Database-clause-listed :
     goal.returns-in_ok-choices-in-Database-clause-listed
 unfolding whole
 returns-in_ok-choices-in-Database-clause-listed c = λ ok.
-    let b = book_of c.in-Database.database in
+    let b = book_of c.database.result in
     let x = c.args.turn.now.position in
     let v = c.args.turn.now.roll in
     let chosen = c.in_ok-choices-in-Database.ensures {u = tt} in
     let told = c.tell_choices.ensures in
-    rw c.in-Database.is
+    rw c.database.ensures
     (told_list b x v c.in_ok-choices-in-Database.choices.items c.as_slice.result.now
     c.as_slice.ensures.value c.tell_choices.new.count told.told c.tell_choices.new.room
     chosen.listed chosen.losses (told.places ok) (told.costs ok (loss_in b x v)))
@@ -47,12 +47,12 @@ returns-in_ok-choices-in-Database-clause-listed c = λ ok.
 pub returns-in_ok-choices-in-Board-clause-listed :
     goal.returns-in_ok-choices-in-Board-clause-listed
 returns-in_ok-choices-in-Board-clause-listed c = λ ok.
-    let b = board_book c.in-Board.board in
+    let b = board_book c.board.result in
     let x = c.args.turn.now.position in
     let v = c.args.turn.now.roll in
     let chosen = c.in_ok-choices-in-Board.ensures {u = tt} in
     let told = c.tell_choices-in-Board.ensures in
-    rw c.in-Board.is
+    rw c.board.ensures
     (told_list b x v c.in_ok-choices-in-Board.choices.items c.as_slice-in-Board.result.now
     c.as_slice-in-Board.ensures.value c.tell_choices-in-Board.new.count told.told
     c.tell_choices-in-Board.new.room chosen.listed chosen.losses (told.places ok)

@@ -9,8 +9,8 @@ unfolding whole
 returns-in-Some-clause-reply c = (
   c.as_bytes.result.now,
   c.put_text.ensures.text,
-  rw c.in-Database.is
-      (subst (λ (text : List ℕ). IsReply c.in-Database.database c.args.line.now (text ++ 10 ∷ []))
+  rw c.database.ensures
+      (subst (λ (text : List ℕ). IsReply c.database.result c.args.line.now (text ++ 10 ∷ []))
       (sym (c.as_bytes.ensures.value ∙ c.as_str.ensures.value)) c.answer.ensures.reply),
 )
 
@@ -18,9 +18,9 @@ pub returns-in-Some-answer-clause-reply : goal.returns-in-Some-answer-clause-rep
 returns-in-Some-answer-clause-reply c = (
   c.as_bytes-in-Some-answer.result.now,
   c.put_text-in-Some-answer.ensures.text,
-  rw c.in-Board.is
+  rw c.board.ensures
       (subst (λ (text : List ℕ).
-      IsReplyIn (board_book c.in-Board.board) c.args.line.now (text ++ 10 ∷ []))
+      IsReplyIn (board_book c.board.result) c.args.line.now (text ++ 10 ∷ []))
       (sym (c.as_bytes-in-Some-answer.ensures.value ∙ c.as_str-in-Some-answer.ensures.value))
       c.answer-in-Board.ensures.reply),
 )

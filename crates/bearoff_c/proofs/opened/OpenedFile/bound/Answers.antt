@@ -1,13 +1,20 @@
-use Rattle.std.proofs.Common.{refl}
-use Rattle.race_model.specs.BoardFiles.{board_book}
-use Rattle.race_model.proofs.RightFiles.Right.{short}
-use Rattle.race_model.proofs.Books.FromLocal.{whole_board}
+-- The book of a right file is right, whatever its kind.
+use Rattle.std.proofs.Common.{le_trans, le_of_eq}
+use Rattle.bearoff_c.proofs.FileBooks.{right_book, long_book, most_bound}
 use Rattle.bearoff_c.proofs.opened.OpenedFile.bound.Goals as goal
 
-pub returns-in-Database-clause-long : goal.returns-in-Database-clause-long
-returns-in-Database-clause-long c =
-    rw c.in-Database.is (short c.in-Database.database c.bound.ensures.right.file)
+pub returns-clause-right : goal.returns-clause-right
+returns-clause-right c =
+    rw (← c.self.view_is)
+    (right_book c.self.inside.kind c.self.inside.bytes.now c.self.invariant.0.right)
 
-pub returns-in-Board-clause-long : goal.returns-in-Board-clause-long
-returns-in-Board-clause-long c =
-    rw c.in-Board.is (whole_board (board_book c.in-Board.board) refl)
+pub returns-clause-long : goal.returns-clause-long
+returns-clause-long c =
+    rw (← c.self.view_is)
+    (long_book c.self.inside.kind c.self.inside.bytes.now c.self.invariant.0.right)
+
+pub returns-clause-range : goal.returns-clause-range
+returns-clause-range c =
+    let kept = c.self.invariant.0 in
+    le_trans (le_of_eq kept.bound)
+    (most_bound c.self.inside.kind c.self.inside.bytes.now kept.right)

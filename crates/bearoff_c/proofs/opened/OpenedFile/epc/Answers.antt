@@ -9,7 +9,7 @@ pub returns-in_ok-mean-in-Database-clause-exact : goal.returns-in_ok-mean-in-Dat
 unfolding whole
 returns-in_ok-mean-in-Database-clause-exact c =
     let told = c.epc.result.exact in
-    rw c.in-Database.is
+    rw c.database.ensures
     (subst (λ n. IsFraction (49 * n) (6 * whole)
     (long_number_of told.numerator) (long_number_of told.denominator))
     (c.in_ok-mean-in-Database.ensures {u = tt}).recorded c.epc.ensures.exact)
@@ -17,7 +17,7 @@ returns-in_ok-mean-in-Database-clause-exact c =
 pub returns-in_ok-mean-in-Board-clause-exact : goal.returns-in_ok-mean-in-Board-clause-exact
 returns-in_ok-mean-in-Board-clause-exact c =
     let told = c.epc-in-Board.result.exact in
-    rw c.in-Board.is
+    rw c.board.ensures
     (subst (λ n. IsFraction (49 * n) (6 * board_whole)
     (long_number_of told.numerator) (long_number_of told.denominator))
     (c.in_ok-mean-in-Board.ensures {u = tt}).recorded c.epc-in-Board.ensures.exact)

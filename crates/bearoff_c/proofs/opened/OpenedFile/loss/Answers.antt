@@ -10,13 +10,13 @@ pub returns-in_ok-lost-in-Database-clause-recorded :
     goal.returns-in_ok-lost-in-Database-clause-recorded
 unfolding whole
 returns-in_ok-lost-in-Database-clause-recorded c =
-    rw (c.in-Database.is, c.short.ensures.numerator, c.short.ensures.denominator)
+    rw (c.database.ensures, c.short.ensures.numerator, c.short.ensures.denominator)
     (c.in_ok-lost-in-Database.ensures {u = tt}).recorded
 
 pub returns-in_ok-lost-in-Board-clause-recorded : goal.returns-in_ok-lost-in-Board-clause-recorded
 returns-in_ok-lost-in-Board-clause-recorded c =
     let told = c.long_fraction.result in
-    rw c.in-Board.is
+    rw c.board.ensures
     (subst (λ n. IsFraction n board_whole
     (long_number_of told.numerator) (long_number_of told.denominator))
     (c.in_ok-lost-in-Board.ensures {u = tt}).recorded c.long_fraction.ensures)

@@ -8,7 +8,7 @@ pub returns-in_ok-mean-in-Database-clause-exact : goal.returns-in_ok-mean-in-Dat
 unfolding whole
 returns-in_ok-mean-in-Database-clause-exact c =
     let told = c.rolls.result.exact in
-    rw c.in-Database.is
+    rw c.database.ensures
     (subst (λ n. IsFraction n whole
     (long_number_of told.numerator) (long_number_of told.denominator))
     (c.in_ok-mean-in-Database.ensures {u = tt}).recorded c.rolls.ensures.exact)

@@ -7,7 +7,7 @@ use Rattle.bearoff_c.proofs.opened.OpenedFile.shares.Goals as goal
 pub returns-in_ok-_spread-in-Database-clause-recorded :
     goal.returns-in_ok-_spread-in-Database-clause-recorded
 returns-in_ok-_spread-in-Database-clause-recorded c =
-    rw c.in-Database.is
+    rw c.database-database.ensures
     (λ k few.
     c.put_shares.ensures.shares k few ∙ ap (λ v. share_of v k) c.record.ensures.record
-    ∙ share-of_record c.in-Database.database (rank c.args.position.now) k)
+    ∙ share-of_record c.database-database.result (rank c.args.position.now) k)
