@@ -10,7 +10,7 @@ use Rattle.race_model.proofs.Ranks.RankOrder.{first_of-zero}
 use Rattle.race_model.specs.Files.{place_by}
 use Rattle.race_model.proofs.RightFiles.Places.{place_by-first, record_place-by}
 use Rattle.ranking.specs.declared.firsts.TheConstants.{FIRSTS}
-use Rattle.ranking.proofs.KnownCounts.{at_first}
+use Rattle.ranking.proofs.LevelCounts.{at_first}
 use Rattle.db_layout.specs.declared.places.TheConstants.{STARTS}
 use Rattle.db_layout.proofs.RecordPlaces.{place_beyond}
 

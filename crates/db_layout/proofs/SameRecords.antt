@@ -1,6 +1,6 @@
 -- The records of the ranks below one stand before its place. So they are the same in two lists of
 -- bytes that begin alike, and so is what they say: later bytes change nothing of lower ranks.
-use Rattle.std.proofs.Common.{◌≡◌, ℕ, ◌+◌, ◌*◌, ◌-◌, ◌^◌, ◌<◌, ◌≤◌, List, take, refl, ap, subst, arith}
+use Rattle.std.proofs.Common.{◌≡◌, ℕ, ◌*◌, ◌-◌, ◌^◌, ◌<◌, ◌≤◌, List, take, refl, ap, subst, arith}
 use Rattle.race_model.specs.Positions.{Board, IsPosition, pips}
 use Rattle.race_model.specs.Dice.{Throw, roll_index}
 use Rattle.race_model.specs.Ranks.{rank, at_rank}

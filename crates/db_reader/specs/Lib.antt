@@ -2,4 +2,3 @@ pub mod Telling
 pub mod Reads
 pub mod SourceStays
 pub mod TableStays
-pub mod Trials

@@ -2,7 +2,7 @@
 ghost use Rattle.std.specs.Prelude.{◌≡◌, ℕ, ◌+◌, ◌-◌, ◌==◌, ◌≤◌, true, false, if◌then◌else◌};
 ghost use Rattle.std.specs.Prelude.{IsErr, IfOk, OnOk, List, length, take, drop};
 ghost use Rattle.db_reader.specs.Telling.{WhereTold, RoseWhere};
-ghost use Rattle.db_reader.specs.Trials.{IsCounted, source_calls};
+ghost use Rattle.db_reader.specs.SourceStays.{IsCounted, source_calls};
 
 use crate::countdown::Countdown;
 use crate::source::{Source, SourceFault};

@@ -374,3 +374,15 @@ divided_once m p k none some = record {
 -- what leaves a rest divides not both of a number and another one
 pub rest_apart : (p n d : ℕ) → ¬ (n % p ≡ 0) → AreApart p n d
 rest_apart p n d rest both = rest (mod-eq-zero_of_dvd p both.0)
+
+-- twos taken out: what is left, and that no more can be
+pub ruleset by_twos = (twos_divided, twos_apart)
+
+-- threes taken out, one factor after another
+pub ruleset by_threes = (divided_twice, none_left)
+
+-- a quotient by an inverse, and where there is none
+pub ruleset by_power = (divided_by_power, quotient_of_multiple)
+
+-- a factor taken out of what is left, as often as it divides
+pub ruleset by_steps = (divided_once, divided_twice, none_left, rest_apart)

@@ -1,19 +1,19 @@
--- Fractions that a common factor was taken out of.
+-- Fractions that a common factor was taken out of, and thousandths between the least and the
+-- greatest that they can be.
 use Prim.Native.Nat.{◌∣◌}
-use Rattle.std.proofs.Common.{◌≡◌, ℕ, zero, suc, ◌+◌, ◌*◌, ◌%◌, ◌^◌, ◌<◌, ◌≤◌, map, refl, ap, ◌∙◌, arith, List}
-use Rattle.std.proofs.Common.{subst, sym, add-one}
+use Rattle.std.proofs.Common.{◌≡◌, ℕ, zero, suc, ◌+◌, ◌*◌, ◌%◌, ◌^◌, ◌<◌, ◌≤◌, map, refl, ap, ◌∙◌, arith, List, subst}
+use Rattle.std.proofs.Common.{sym, add-one, ◌-◌}
 use Rattle.std.specs.Prelude.{slice_index_or}
 use Rattle.std.specs.Int.{IsGcd}
 use Rattle.std.specs.List.{range_with_len}
 use Rattle.std.proofs.lemmas.List.FromFn.{get_or-map-range_with_len}
-use Rattle.std.proofs.Math.Nat.{le_of_mul-le-mul_left, le_of_dvd, mod-eq_of_lt, one-le-pow, pow-succ'}
+use Rattle.std.proofs.Math.Nat.{le_of_mul-le-mul_left, le_of_dvd, mod-eq_of_lt, one-le-pow, pow-succ', mul-le-mul}
 use Rattle.race_model.specs.LocalEquations.{whole}
-use Rattle.race_model.specs.Fractions.{IsFraction}
+use Rattle.race_model.specs.Fractions.{IsFraction, IsThousandths}
 use Rattle.fixed_fraction.specs.Board.{board_whole, part}
 use Rattle.fixed_fraction.specs.Ratios.{IsSmallRatio, IsDivided}
 use Rattle.fixed_fraction.specs.declared.fraction.TheConstants.{POWERS_OF_THREE}
-use Rattle.fixed_fraction.proofs.CommonFactors.{divided_positive, divided_twice, not_divided}
-use Rattle.fixed_fraction.proofs.CommonFactors.{product_divides}
+use Rattle.fixed_fraction.proofs.CommonFactors.{divided_positive, divided_twice, not_divided, product_divides}
 
 -- numbers that a common factor was taken out of, in lowest terms, are the fraction
 pub lowest_fraction : (a b n d : ℕ) → 0 < b → IsDivided a b n d → IsGcd n d 1 → IsFraction a b n d
@@ -168,3 +168,47 @@ scaled_divided rolls b n k s m e first second =
     six : 3 ^ (k + 1) * 2 ^ (s + 1) ≡ 6 * (3 ^ k * 2 ^ s)
     six = ap (λ l. l * 2 ^ (s + 1)) (one_more 3 k) ∙ ap (λ l. 3 * 3 ^ k * l) (one_more 2 s)
         ∙ product (3 ^ k) (2 ^ s)
+
+-- an odd multiple of a number and the number itself are an even one
+pub odd_multiple : (d m : ℕ) → 0 < m → d * (2 * m - 1) + d ≡ 2 * m * d
+odd_multiple d m some = one_more d (2 * m - 1) ∙ ap (λ e. e * d) (omega (arith, some))
+  where
+    one_more : (d e : ℕ) → d * e + d ≡ (e + 1) * d
+    one_more d e = omega arith
+
+-- .. which has room where the number is a denominator
+pub multiple_fits : (d m : ℕ) → d ≤ 6 * board_whole → m ≤ 180000 → d * (2 * m - 1) < 2 ^ 192
+multiple_fits d m short few = omega (arith, mul-le-mul short multiples)
+  where
+    multiples : 2 * m - 1 ≤ 359999
+    multiples = omega (arith, few)
+
+-- what is less than such a multiple rounds to less
+pub rounds_below : (t d m : ℕ) → 0 < m → t < d * (2 * m - 1) → t + d < 2 * m * d
+rounds_below t d m some less = omega (arith, less, odd_multiple d m some)
+
+-- .. and what is not, to no less
+pub rounds_above : (t d m : ℕ) → 0 < m → d * (2 * m - 1) ≤ t → 2 * m * d ≤ t + d
+rounds_above t d m some within = omega (arith, within, odd_multiple d m some)
+
+-- at first the thousandths are anything from 0 to 180,000
+pub rounds_within : (n d t : ℕ) → t ≡ n * 2000 → 0 < d → n ≤ 180 * d → t + d < 2 * 180001 * d
+rounds_within n d t is some within = omega (arith, is, some, within)
+
+-- between two that follow each other is one alone
+pub rounded : (n d t least over : ℕ) → t ≡ n * 2000 → 2 * least * d ≤ t + d →
+    t + d < 2 * over * d → over ≡ least + 1 → IsThousandths n d least
+rounded n d t least over is reached missed next = record {
+  not_over = omega (arith, is, reached);
+  not_under = omega (arith, is, cut);
+}
+  where
+    next_multiple : (d q : ℕ) → 2 * (q + 1) * d ≡ (2 * q + 1) * d + d
+    next_multiple d q = omega arith
+
+    cut : t < (2 * least + 1) * d
+    cut = omega (
+      arith,
+      subst (λ q. t + d < 2 * q * d) next missed,
+      next_multiple d least,
+    )

@@ -9,10 +9,8 @@ use Rattle.race_model.specs.LocalEquations.{whole}
 use Rattle.race_model.proofs.Dice.RollSums.{length-all_rolls, sum_by-weight, roll_index-range}
 use Rattle.race_model.proofs.Dice.Throws.{roll_of_index}
 use Rattle.race_model.proofs.Numbers.Sums.{sum_by-map, sum_by-equal, sum_by-zero}
-use Rattle.fixed_fraction.specs.Shares.{weighted_share}
-use Rattle.fixed_fraction.specs.Totals.{weighted_at, sum_at}
-use Rattle.fixed_fraction.proofs.Pulls.{part_small}
-use Rattle.fixed_fraction.proofs.Shares.{sum_upto, sum_upto-same, sum_upto-zero, sum_upto-linear}
+use Rattle.fixed_fraction.specs.Totals.{weighted_share, weighted_at, sum_at}
+use Rattle.fixed_fraction.proofs.Shares.{part_small, sum_upto, sum_upto-same, sum_upto-zero, sum_upto-linear}
 use Rattle.fixed_fraction.proofs.Shares.{sum_upto-weighted_share}
 use Rattle.fixed_fraction.proofs.Shares.{sum-by_places, sum_upto-without_last}
 

@@ -127,3 +127,15 @@ powers_fit k s few few_twos = omega (
   mul-le-mul_left (3 ^ k) (pow-le-pow_right {n = 2} (omega arith) few_twos),
   pow-le-pow_right {n = 3} (omega arith) few,
 )
+
+-- a product, which fits three words
+pub ruleset of_times = (wide_times, high_fits)
+
+-- a number doubled so many times
+pub ruleset of_doubled = (high_fits, wide_doubled)
+
+-- a product by a power of 36
+pub ruleset of_power = (power_fits, power_times)
+
+-- a quotient, and its rest
+pub ruleset of_divided = (wide_quotient, wide_rest)

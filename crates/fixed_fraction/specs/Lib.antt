@@ -1,4 +1,3 @@
 pub mod Board
 pub mod Ratios
-pub mod Shares
 pub mod Totals

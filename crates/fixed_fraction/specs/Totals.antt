@@ -21,3 +21,7 @@ weighted_at spreads k = weighted (λ v. slice_index (slice_index_or spreads (rol
 -- .. and the sum of those that the rolls with these indices lead to, each counted once
 abbrev pub sum_at : List (List ℕ) → List ℕ → ℕ → ℕ
 sum_at spreads indices k = sum_by (λ i. slice_index (slice_index_or spreads i []) k) indices
+
+-- the weighted sum of the shares of exactly k rolls
+abbrev pub weighted_share : List (ℕ × List ℕ) → ℕ → ℕ
+weighted_share parts k = sum_by (λ part. part.0 * slice_index part.1 k) parts

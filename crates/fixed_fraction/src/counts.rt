@@ -118,6 +118,7 @@ impl LongCount {
 
     /// The share of exactly `k` rolls over 36 ^ 33: each of so many sequences of k throws goes on
     /// with any throws, to 33 of them.
+    #[tactic(auto, using(crate::proofs::TwoParts::share_within))]
     pub fn share(self, k: u8) -> Wide
         requires few { k ≤ 33 }
         requires within { self ≤ 36 ^ k }

@@ -222,6 +222,7 @@ fn fraction_of(terms: Terms) -> Fraction
 }
 
 /// Three to the power of up to 67.
+#[tactic(auto, using(crate::proofs::Fractions::at_power))]
 pub(crate) fn power_of_three(exponent: u32) -> u128
     requires { exponent ≤ 67 }
     ensures { result ≡ 3 ^ exponent }

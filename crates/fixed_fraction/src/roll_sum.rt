@@ -106,6 +106,7 @@ impl LongSum {
 
     /// The sum and a number of two parts with its weight.
     #[inline(always)]
+    #[tactic(auto, using(crate::proofs::TwoParts::sum_added))]
     pub(crate) fn plus(self, weight: u8, upper: u128, lower: u64) -> LongSum
         requires light { self.weight + weight ≤ 36 }
         requires upper { upper ≤ 33 * 36 ^ 22 }

@@ -3,7 +3,7 @@ ghost use Rattle.std.specs.Prelude.{◌≡◌, ℕ, suc, ◌+◌, ◌*◌, ◌%�
 ghost use Rattle.std.specs.Prelude.{replicate, slice_index, IsTrue, IsSome, IfSome, All, sum};
 ghost use Rattle.std.specs.Prelude.{sum_by};
 ghost use Rattle.race_model.specs.LocalEquations.{whole};
-ghost use Rattle.fixed_fraction.specs.Shares.{weighted_share};
+ghost use Rattle.fixed_fraction.specs.Totals.{weighted_share};
 
 use crate::scaled::WHOLE;
 use std::marker::Model;
@@ -89,6 +89,7 @@ impl Spread {
     /// The weighted mean of the spreads that the 21 rolls lead to, moved on by one roll; the
     /// weights add up to 36. None exactly where a weighted sum is no multiple of 36 or a part has
     /// a share at 22 rolls.
+    #[tactic(auto, using(crate::proofs::Shares::moved_whole))]
     pub fn pull(parts: &[(u8, Spread); 21]) -> Option<Spread>
         requires { sum_by (λ part. part.0) parts.now ≡ 36 }
         ensures start { IfSome result (λ spread. slice_index spread 0 ≡ 0) }

@@ -44,6 +44,7 @@ pub(crate) fn without_common(terms: Terms) -> Terms
 }
 
 /// The terms without the twos that both have.
+#[tactic(auto, using(crate::proofs::CommonFactors::by_twos))]
 fn without_twos(terms: Terms) -> Terms
     requires { terms.twos ≤ 67 }
     ensures threes { result.threes ≡ terms.threes }
@@ -61,6 +62,7 @@ fn without_twos(terms: Terms) -> Terms
 }
 
 /// The terms without the threes that both have, taken out one by one.
+#[tactic(auto, using(crate::proofs::CommonFactors::by_threes))]
 fn without_threes(terms: Terms) -> Terms
     ensures twos { result.twos ≡ terms.twos }
     ensures threes { result.threes ≤ terms.threes }
@@ -109,6 +111,7 @@ fn without(terms: Terms, count: u32, power: u128, inverse: u128) -> Terms
 /// There is no division: modulo 2 ^ 128 the power has an inverse, by which its multiples, and they
 /// alone, become numbers small enough.
 #[inline(always)]
+#[tactic(auto, using(crate::proofs::CommonFactors::by_power))]
 fn divided(terms: Terms, count: u32, power: u128, inverse: u128) -> Option<Terms>
     requires power { power ≡ 3 ^ count }
     requires inverse { power * inverse % 2 ^ 128 ≡ 1 }

@@ -101,6 +101,7 @@ impl Wide {
     }
 
     /// The number times one of up to 32 bits, where the product has room.
+    #[tactic(auto, using(crate::proofs::WideNumbers::of_times))]
     pub(crate) fn times(self, factor: u32) -> Wide
         requires { self * factor < 2 ^ 192 }
         ensures { result ≡ self * factor }
@@ -116,6 +117,7 @@ impl Wide {
     }
 
     /// A number of 128 bits times so many twos, where the product has room.
+    #[tactic(auto, using(crate::proofs::WideNumbers::of_doubled))]
     pub(crate) fn doubled(number: u128, twos: u32) -> Wide
         requires few { twos ≤ 127 }
         requires room { number * 2 ^ twos < 2 ^ 192 }
@@ -128,6 +130,7 @@ impl Wide {
     }
 
     /// The number times a power, where the product has room.
+    #[tactic(auto, using(crate::proofs::WideNumbers::of_power))]
     pub(crate) fn times_power(self, factor: u32, exponent: u32) -> Wide
         requires positive { 0 < factor }
         requires room { self * factor ^ exponent < 2 ^ 192 }
@@ -141,6 +144,7 @@ impl Wide {
     }
 
     /// The quotient by a number of up to 64 bits, and the rest.
+    #[tactic(auto, using(crate::proofs::WideNumbers::of_divided))]
     pub(crate) fn divided(self, by: u64) -> (Wide, u64)
         requires { 0 < by }
         ensures quotient { result.0 ≡ self / by }

@@ -211,6 +211,7 @@ fn lowest(terms: WideTerms) -> WideTerms
 
 /// A number and a power of another one without what they have of that in common: the number, and
 /// the exponent that is left.
+#[tactic(auto, using(crate::proofs::CommonFactors::by_steps))]
 fn without(number: Wide, factor: u64, exponent: u32) -> (Wide, u32)
     requires { 2 ≤ factor }
     ensures divided { IsDivided number (factor ^ exponent) result.0 (factor ^ result.1) }

@@ -20,8 +20,7 @@ use Rattle.race_model.specs.Plays.{StepFrom}
 use Rattle.race_model.proofs.Plays.Enumerated.{from_occupied}
 use Rattle.std.proofs.lemmas.Bool.{cases_lt}
 use Rattle.legal_plays.proofs.StepLemmas.{step_source}
-use Rattle.least_plays.specs.Choices.{IsNoWorse, IsBetterOf}
-use Rattle.least_plays.specs.Firsts.{IsFirst, IsBestFirst}
+use Rattle.least_plays.specs.Firsts.{IsNoWorse, IsBetterOf, IsFirst, IsBestFirst}
 use Rattle.least_plays.specs.Known.{number_in, kept_in, dice_left, start_of, IsBestAfter, IsNext, IsStart}
 use Rattle.least_plays.proofs.Chains.{step_to, can_step, can_step_highest}
 use Rattle.std.proofs.Common.{inl}

@@ -10,7 +10,7 @@ use Rattle.race_model.specs.BestPlays.{IsBestPlay}
 use Rattle.race_model.proofs.Dice.Faces.{same_number, number_positive}
 use Rattle.race_model.proofs.Ranks.BestPlays.{run_lower}
 use Rattle.legal_plays.proofs.LegalLemmas.{legal_double, legal_apart}
-use Rattle.least_plays.specs.Choices.{IsNoWorse}
+use Rattle.least_plays.specs.Firsts.{IsNoWorse}
 use Rattle.least_plays.specs.Known.{dice_left, IsBestAfter, AreStarts}
 use Rattle.least_plays.specs.declared.starts.Start.{Start}
 use Rattle.least_plays.specs.declared.starts.Starts.{Starts}

@@ -1,12 +1,23 @@
--- The best of what is kept of the steps of each die. Source: this project's profile.
-use Rattle.std.specs.Prelude.{◌≡◌, ◌⊎◌, ℕ, ◌-◌, ◌<◌, List, [], length, slice_index, slice_index_or}
+-- The best of some ranks, the least mean and, of equal means, the lowest rank; and the best of what
+-- is kept of the steps of each die. Source: this project's profile.
+use Rattle.std.specs.Prelude.{◌≡◌, ◌⊎◌, ℕ, ◌-◌, ◌<◌, List, [], length, slice_index, slice_index_or, ◌≤◌}
 use Rattle.race_model.specs.Positions.{Board}
 use Rattle.race_model.specs.Dice.{Die, number}
 use Rattle.race_model.specs.Plays.{StepFrom, Step}
 use Rattle.race_model.specs.Ranks.{rank}
-use Rattle.least_plays.specs.Choices.{IsNoWorse}
 use Rattle.least_plays.specs.Known.{kept_in}
 use Rattle.least_plays.specs.declared.room.Row.{Row}
+
+-- r has a smaller mean than s, or the same and no higher rank
+pub record IsNoWorse (mean : ℕ → ℕ) (r s : ℕ) : Type 0 where
+  pub least : mean r ≤ mean s
+  pub lowest : mean s ≡ mean r → r ≤ s
+
+-- r is one of two ranks, and no worse than either
+pub record IsBetterOf (mean : ℕ → ℕ) (s t r : ℕ) : Type 0 where
+  pub either : (r ≡ s) ⊎ (r ≡ t)
+  pub one : IsNoWorse mean r s
+  pub other : IsNoWorse mean r t
 
 -- the highest point, or one below a limit
 abbrev pub IsSeen : ℕ → ℕ → ℕ → Type 0

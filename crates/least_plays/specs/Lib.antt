@@ -1,4 +1,3 @@
-pub mod Choices
 pub mod Firsts
 pub mod Known
 pub mod Recorded

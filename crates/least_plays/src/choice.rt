@@ -1,6 +1,6 @@
 //! The better of two ranks: the smaller mean and, of equal means, the lower rank.
 ghost use Rattle.std.specs.Prelude.{◌≡◌, ℕ, ◌<◌, length, slice_index};
-ghost use Rattle.least_plays.specs.Choices.{IsBetterOf};
+ghost use Rattle.least_plays.specs.Firsts.{IsBetterOf};
 
 use crate::RankedMeans;
 

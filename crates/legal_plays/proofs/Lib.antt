@@ -4,7 +4,6 @@ pub mod PlayLemmas
 pub mod PlayToLemmas
 pub mod RankLemmas
 pub mod ReachLemmas
-pub mod RollLemmas
 pub mod SourceLemmas
 pub mod StepLemmas
 pub mod TextLemmas

@@ -1,14 +1,15 @@
--- What the search for some dice says of the roll.
-use Rattle.std.proofs.Common.{◌≡◌, ◌≢◌, List, [], ◌∷◌, ◌⊎◌, inl, inr, ◌↔◌, Option, Some, None}
-use Rattle.std.proofs.Common.{IsSome, IfSome, IfNone, refl, sym, ◌∙◌, ap, subst}
+-- The 21 rolls and their indexes, and what the search for some dice says of the roll.
+use Rattle.std.proofs.Common.{◌≡◌, ◌≢◌, List, [], ◌∷◌, ◌⊎◌, inl, inr, ◌↔◌, Option, Some, None, IsSome, IfSome, IfNone}
+use Rattle.std.proofs.Common.{refl, sym, ◌∙◌, ap, subst, ℕ}
 use Rattle.arrayvec.specs.ArrayVec.{ArrayVec}
 use Rattle.race_model.specs.Positions.{Board}
-use Rattle.race_model.specs.Dice.{Die, Throw, number}
+use Rattle.race_model.specs.Dice.{Die, Throw, number, IsRoll, roll_at, roll_index}
 use Rattle.race_model.specs.Plays.{Run}
 use Rattle.legal_plays.specs.declared.moves.Move.{Move}
 use Rattle.race_model.specs.FirstPlays.{IsFirstOf, IsFirstPlay, smaller_first}
 use Rattle.race_model.proofs.Plays.PlayOrder.{moves_run}
 use Rattle.legal_plays.specs.MoveLists.{moves_of}
+use Rattle.race_model.proofs.Dice.Throws.{index_of_roll}
 
 -- a play is found exactly where there is a run
 pub found_run : (x : Board) (dice : List Die) (y : Board) (found : Option (ArrayVec Move)) →
@@ -44,3 +45,7 @@ pub second_only : (found : Option (ArrayVec Move)) (Second : Type 0) → found �
 second_only None Second is =
     (λ second. inr second, λ either. elim either [ inl none ↦ absurd (cc) | inr second ↦ second ])
 second_only (Some play) Second is = absurd (cc)
+
+-- the roll of an index
+pub roll_at_is : (v : Throw) (i : ℕ) → roll_index v ≡ i → IsRoll v → v ≡ roll_at i
+roll_at_is v i e h = sym (index_of_roll v h).1 ∙ ap roll_at e

@@ -6,7 +6,7 @@ use Rattle.std.proofs.lemmas.List.Elements.{Contains-append_left, Contains-push,
 use Rattle.race_model.specs.Positions.{Board, IsFinished}
 use Rattle.race_model.specs.Dice.{Die}
 use Rattle.race_model.specs.Plays.{Step, Run}
-use Rattle.legal_plays.specs.Reach.{PlaysDie}
+use Rattle.legal_plays.specs.MoveLists.{PlaysDie}
 
 -- what the die makes of one more position
 pub one_more_position : (xs : List Board) (i : ℕ) (z y : Board) (d : Die) (Before Now : Type 0) →

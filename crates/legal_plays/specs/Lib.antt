@@ -1,5 +1,4 @@
 pub mod Faces
 pub mod MoveLists
 pub mod RankOrder
-pub mod Reach
 pub mod Texts

@@ -4,7 +4,7 @@ ghost use Rattle.arrayvec.specs.ArrayVec.{array_vec_len};
 ghost use Rattle.race_model.specs.Positions.{IsFinished};
 ghost use Rattle.race_model.specs.Plays.{Step, Run, Legal};
 ghost use Rattle.legal_plays.specs.RankOrder.{IsInRankOrder, IsAscending};
-ghost use Rattle.legal_plays.specs.Reach.{PlaysDie};
+ghost use Rattle.legal_plays.specs.MoveLists.{PlaysDie};
 
 use crate::{Die, Roll, step};
 use arrayvec::ArrayVec;

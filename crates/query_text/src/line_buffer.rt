@@ -68,6 +68,7 @@ impl LineBuffer {
 
 /// The bytes of a line that are looked at: the first 130, without the carriage return at their
 /// end, if there is one.
+#[tactic(auto, using(std::proofs::lemmas::List::take_min))]
 pub fn whole_line(bytes: &[u8]) -> &[u8]
     ensures { result.now ≡ without_return (take 130 bytes.now) }
 {

@@ -67,6 +67,7 @@ fn push_fraction<D: Digits, const ROOM: usize>(text: &mut ArrayString<ROOM>, fra
 }
 
 /// Adds a number of thousandths, as 10.208.
+#[tactic(auto, using(crate::proofs::Decimals::three_digits, crate::proofs::Texts::digits_added))]
 fn push_thousandths<const ROOM: usize>(text: &mut ArrayString<ROOM>, number: u64)
     requires { array_string_len text.old + 39 ≤ ROOM }
     ensures bytes { text.new.bytes ≡ text.old.bytes ++ thousandths_text number }
@@ -78,6 +79,7 @@ fn push_thousandths<const ROOM: usize>(text: &mut ArrayString<ROOM>, number: u64
 }
 
 /// Adds the text of a position, at most 12 bytes.
+#[tactic(auto, using(crate::proofs::Texts::position_text_is))]
 fn push_position<const ROOM: usize>(text: &mut ArrayString<ROOM>, position: &Position)
     requires { array_string_len text.old + 12 ≤ ROOM }
     ensures bytes { text.new.bytes ≡ text.old.bytes ++ position_text position.now }
@@ -88,6 +90,7 @@ fn push_position<const ROOM: usize>(text: &mut ArrayString<ROOM>, position: &Pos
 }
 
 /// Adds the share of exactly `k` rolls, unless it is zero.
+#[tactic(auto, using(crate::proofs::Parts::some_part, crate::proofs::Parts::pair_added))]
 fn push_share<N: Number, const ROOM: usize>(text: &mut ArrayString<ROOM>, shares: &N::Shares, k: u8)
     requires few { k ≤ N.most }
     requires are { N.are_shares shares.now }

@@ -9,7 +9,7 @@ use Rattle.race_model.specs.Ranks.{rank, first_of}
 use Rattle.race_model.proofs.Plays.Steps.{Loses, one_fewer, one_moved, occupied_place}
 use Rattle.race_model.proofs.Ranks.RankCounts.{later}
 use Rattle.race_model.proofs.Ranks.RankOrder.{pips-range, rank-later, first_of-suc}
-use Rattle.ranking.specs.Lists.{used}
+use Rattle.ranking.specs.Tables.{used}
 use Rattle.ranking.specs.Chains.{IsLeft, checkers_left, pips_left, sum_from, below, between, above}
 use Rattle.ranking.specs.declared.left.Left.{Left}
 use Rattle.ranking.proofs.Reading.{IsRead, IsNext, read_start, read_next, later-most}

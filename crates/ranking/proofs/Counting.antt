@@ -14,7 +14,7 @@ use Rattle.race_model.proofs.Ranks.RankCounts.{later, split_all}
 use Rattle.race_model.proofs.Ranks.RankCounts as counts
 use Rattle.race_model.proofs.Ranks.RankOrder as order
 use Rattle.race_model.proofs.Ranks.PositionTotals as totals
-use Rattle.ranking.specs.Lists.{used, ways}
+use Rattle.ranking.specs.Tables.{used, ways}
 use Rattle.ranking.proofs.TableCounts.{used-is, used-none, used-step}
 use Rattle.ranking.proofs.Reading.{IsRead, IsNext, read_start, read_next}
 

@@ -7,7 +7,7 @@ use Rattle.std.specs.Prelude.{◌⊎◌}
 use Rattle.std.proofs.lemmas.Bool.{lt-ltb, le-ltb, ne_eqb, cases_lt, cases_order}
 use Rattle.std.proofs.lemmas.List.{length-set, get_or-replicate}
 use Rattle.ranking.specs.declared.row.Row.{Row}
-use Rattle.ranking.specs.Lists.{ways, used}
+use Rattle.ranking.specs.Tables.{ways, used}
 use Rattle.ranking.specs.Tables.{IsRow, IsPointTable}
 use Rattle.ranking.proofs.Cells.{zeros}
 use Rattle.ranking.proofs.TableCounts.{ways-most, ways-end, ways-step, used-none, used-step}

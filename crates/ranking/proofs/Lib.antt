@@ -4,5 +4,4 @@ pub mod Filling
 pub mod Reading
 pub mod Chains
 pub mod Counting
-pub mod KnownCounts
 pub mod LevelCounts

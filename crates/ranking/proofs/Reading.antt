@@ -9,7 +9,7 @@ use Rattle.race_model.proofs.Numbers.Sums.{sum-cons}
 use Rattle.race_model.proofs.Ranks.RankCounts.{later}
 use Rattle.race_model.proofs.Ranks.RankOrder.{rank-later, first_of-suc}
 use Rattle.race_model.proofs.Ranks.PositionTotals.{rank-range, count_to-most}
-use Rattle.ranking.specs.Lists.{used}
+use Rattle.ranking.specs.Tables.{used}
 use Rattle.ranking.proofs.TableCounts.{used-is}
 
 -- from point p on, at most k checkers are left with m pips in all; s positions after x are counted

@@ -9,7 +9,7 @@ use Rattle.race_model.proofs.Ranks.BoxCounts.{within}
 use Rattle.race_model.proofs.Ranks.RankCounts as counts
 use Rattle.race_model.proofs.Ranks.RankOrder as order
 use Rattle.race_model.proofs.Ranks.PositionTotals as totals
-use Rattle.ranking.specs.Lists.{ways, used, is_used}
+use Rattle.ranking.specs.Tables.{ways, used, is_used}
 
 -- the lists on the points from p on are those of 7 - p counts
 pub ways-is : (n p k m : ℕ) → n + p ≡ 7 → ways p k m ≡ counts.ways n p k m

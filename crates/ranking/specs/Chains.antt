@@ -3,7 +3,7 @@
 use Rattle.std.specs.Prelude.{◌≡◌, ℕ, zero, suc, ◌+◌, ◌-◌, ◌*◌, ◌<◌, ◌≤◌, List, slice_index}
 use Rattle.race_model.specs.Positions.{Board, IsPosition, count, fewer, more, pips}
 use Rattle.race_model.specs.Ranks.{rank}
-use Rattle.ranking.specs.Lists.{used}
+use Rattle.ranking.specs.Tables.{used}
 use Rattle.ranking.specs.declared.left.Left.{Left}
 
 -- the ranks to which one checker goes from point s by 1 pip, 2 pips and so on, to off the board

@@ -1,7 +1,6 @@
 //! How many lists of counts there are, by checkers and pips.
 ghost use Rattle.std.specs.Prelude.{◌≡◌, ℕ, ◌+◌, ◌<◌, ◌≤◌};
-ghost use Rattle.ranking.specs.Lists.{ways, used};
-ghost use Rattle.ranking.specs.Tables.{IsPointTable};
+ghost use Rattle.ranking.specs.Tables.{ways, used, IsPointTable};
 
 use crate::row::{PIP_COUNTS, Row};
 
@@ -22,6 +21,7 @@ impl PointTable {
     };
 
     /// The lists on no points at all: one, which has no pips.
+    #[tactic(auto, using(crate::proofs::Filling::table_end))]
     pub fn of_no_points() -> PointTable
         ensures { IsPointTable (ways 7) result }
     {

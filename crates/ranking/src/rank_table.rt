@@ -3,8 +3,7 @@ ghost use Rattle.std.specs.Prelude.{◌≡◌, ℕ, ◌+◌, ◌-◌, ◌*◌, �
 ghost use Rattle.std.specs.Prelude.{slice_index, slice_index_or};
 ghost use Rattle.race_model.specs.Positions.{IsPosition, count, fewer, more};
 ghost use Rattle.race_model.specs.Ranks.{rank, at_rank, first_of, count_to};
-ghost use Rattle.ranking.specs.Lists.{ways, used};
-ghost use Rattle.ranking.specs.Tables.{IsRankTable, IsRow};
+ghost use Rattle.ranking.specs.Tables.{ways, used, IsRankTable, IsRow};
 ghost use Rattle.ranking.specs.Chains.{IsChain, IsLeft, pips_left, checkers_left};
 ghost use Rattle.ranking.specs.Chains.{sum_from, below, between, above};
 

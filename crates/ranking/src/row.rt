@@ -32,6 +32,7 @@ impl Row {
     }
 
     /// The sums of the numbers of two rows.
+    #[tactic(auto, using(crate::proofs::Cells::filled_more))]
     pub fn plus(&self, other: &Row) -> Row
         requires { (m : ℕ) → m < 91 →
             slice_index self.now.cells m + slice_index other.now.cells m < 2 ^ 16 }

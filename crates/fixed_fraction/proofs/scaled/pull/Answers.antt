@@ -2,7 +2,7 @@ use Rattle.std.proofs.Common.{◌+◌, ◌*◌, ◌^◌, ◌<◌, ◌≤◌, ◌
 use Rattle.std.proofs.lemmas.List.{take_all}
 use Rattle.std.proofs.lemmas.List.Sums.{sum_by_more}
 use Rattle.race_model.specs.LocalEquations.{whole}
-use Rattle.fixed_fraction.proofs.Pulls.{next_small, sum_fits, whole_is}
+use Rattle.fixed_fraction.proofs.Shares.{next_small, sum_fits, whole_is}
 use Rattle.fixed_fraction.proofs.scaled.pull.Goals as goal
 
 pub loop-weight-init : goal.loop-weight-init

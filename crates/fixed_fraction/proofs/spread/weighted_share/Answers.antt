@@ -1,8 +1,7 @@
 use Rattle.std.proofs.Common.{◌+◌, ◌*◌, ◌^◌, ◌<◌, ◌≤◌, length, sum_by, take, get_or, arith}
 use Rattle.std.proofs.lemmas.List.Sums.{sum_by_more}
 use Rattle.race_model.specs.LocalEquations.{whole}
-use Rattle.fixed_fraction.proofs.Pulls.{next_small, sum_fits}
-use Rattle.fixed_fraction.proofs.Shares.{share_at_most_sum}
+use Rattle.fixed_fraction.proofs.Shares.{next_small, sum_fits, share_at_most_sum}
 use Rattle.fixed_fraction.proofs.spread.weighted_share.Goals as goal
 
 -- the sum with the next part is within the bound by the weights

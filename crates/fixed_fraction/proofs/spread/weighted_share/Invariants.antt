@@ -1,6 +1,6 @@
 use Rattle.std.proofs.Common.{◌≡◌, ◌*◌, ◌≤◌, sum_by, take}
 use Rattle.race_model.specs.LocalEquations.{whole}
-use Rattle.fixed_fraction.specs.Shares.{weighted_share}
+use Rattle.fixed_fraction.specs.Totals.{weighted_share}
 use Rattle.fixed_fraction.proofs.spread.weighted_share.Given as goal
 
 -- the sum of the parts so far, and how large it may be

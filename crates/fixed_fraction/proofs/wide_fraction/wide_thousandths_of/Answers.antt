@@ -1,6 +1,6 @@
 use Rattle.std.proofs.Common.{◌+◌, ◌-◌, ◌/◌, ◌≤◌, ⊎_elim, sym, ◌∙◌, arith}
 use Rattle.std.proofs.lemmas.Bool.{false≢true, cases_lt}
-use Rattle.fixed_fraction.proofs.Rounded.{multiple_fits, rounds_below, rounds_above, rounds_within, rounded}
+use Rattle.fixed_fraction.proofs.Fractions.{multiple_fits, rounds_below, rounds_above, rounds_within, rounded}
 use Rattle.fixed_fraction.proofs.wide_fraction.wide_thousandths_of.Goals as goal
 use Rattle.fixed_fraction.proofs.wide_fraction.wide_thousandths_of.Goals.{Else-is_less}
 

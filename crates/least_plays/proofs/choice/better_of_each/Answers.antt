@@ -1,6 +1,6 @@
 -- The better one at each of nine places.
 use Rattle.std.proofs.Common.{ℕ, zero, suc, ◌<◌, ◌∷◌, [], slice_index, arith}
-use Rattle.least_plays.specs.Choices.{IsBetterOf}
+use Rattle.least_plays.specs.Firsts.{IsBetterOf}
 use Rattle.least_plays.proofs.choice.better_of_each.Goals as goal
 
 -- what holds at nine places

@@ -1,5 +1,5 @@
 use Rattle.std.proofs.Common.{◌≡◌, ℕ, ◌↔◌, List, Contains, take, take_all, subst, arith}
-use Rattle.legal_plays.specs.Reach.{PlaysDie}
+use Rattle.legal_plays.specs.MoveLists.{PlaysDie}
 use Rattle.legal_plays.proofs.ReachLemmas.{one_more_position, stays, steps_on}
 use Rattle.legal_plays.proofs.reach.after_die.Goals as goal
 use Rattle.legal_plays.proofs.reach.after_die.Goals.{then-is_finished, else-is_finished}

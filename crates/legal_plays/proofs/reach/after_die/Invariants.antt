@@ -1,6 +1,6 @@
 use Rattle.std.proofs.Common.{ℕ, ◌*◌, ◌≤◌, ◌↔◌, List, Contains, length, take}
 use Rattle.legal_plays.specs.RankOrder.{IsAscending}
-use Rattle.legal_plays.specs.Reach.{PlaysDie}
+use Rattle.legal_plays.specs.MoveLists.{PlaysDie}
 use Rattle.legal_plays.proofs.reach.after_die.Given as goal
 
 -- the positions after the ones passed have been added

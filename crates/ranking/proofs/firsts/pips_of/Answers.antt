@@ -3,7 +3,7 @@ use Rattle.std.proofs.lemmas.Bool.{cases_lt}
 use Rattle.race_model.specs.Ranks.{first_of}
 use Rattle.race_model.proofs.Ranks.PositionTotals.{first_of-all}
 use Rattle.ranking.specs.declared.firsts.TheConstants.{FIRSTS, LEVELS}
-use Rattle.ranking.proofs.KnownCounts.{at_first, level_before}
+use Rattle.ranking.proofs.LevelCounts.{at_first, level_before}
 use Rattle.ranking.proofs.firsts.pips_of.Goals as goal
 use Rattle.ranking.proofs.firsts.pips_of.Goals.{After-from-in-loop-pips}
 

@@ -1,5 +1,5 @@
 use Rattle.std.proofs.Common.{◌≡◌, ℕ, suc, ◌*◌, ◌%◌, ◌<◌, length, get_or}
-use Rattle.fixed_fraction.specs.Shares.{weighted_share}
+use Rattle.fixed_fraction.specs.Totals.{weighted_share}
 use Rattle.fixed_fraction.proofs.spread.Spread.pull.Given as goal
 
 -- the shares of at most k rolls are there

@@ -8,8 +8,7 @@ use Rattle.race_model.specs.Dice.{number}
 use Rattle.race_model.specs.Ranks.{rank}
 use Rattle.race_model.proofs.Dice.Faces.{number_positive}
 use Rattle.race_model.proofs.Plays.Enumerated.{from_occupied}
-use Rattle.least_plays.specs.Choices.{IsBetterOf}
-use Rattle.least_plays.specs.Firsts.{IsFirst, at_die}
+use Rattle.least_plays.specs.Firsts.{IsBetterOf, IsFirst, at_die}
 use Rattle.least_plays.specs.Known.{kept_in}
 use Rattle.least_plays.proofs.Best.{first_more, first_same, kept_held_each}
 use Rattle.least_plays.proofs.Chains.{die_of, at_die-other, at_die-same, can_step, no_step}

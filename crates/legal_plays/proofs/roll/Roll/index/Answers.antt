@@ -1,6 +1,6 @@
 use Rattle.std.proofs.Common.{◌≡◌, ◌+◌, ◌-◌, ◌*◌, ◌/◌, rules}
 use Rattle.race_model.specs.Dice.{IsRoll, roll_index}
-use Rattle.legal_plays.proofs.RollLemmas.{roll_at_is}
+use Rattle.legal_plays.proofs.PlayToLemmas.{roll_at_is}
 use Rattle.legal_plays.proofs.roll.Roll.index.Goals as goal
 
 pub returns-clause-found : goal.returns-clause-found

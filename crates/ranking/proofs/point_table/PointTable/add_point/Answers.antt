@@ -1,6 +1,5 @@
 use Rattle.std.proofs.Common.{[], arith}
-use Rattle.ranking.specs.Lists.{used}
-use Rattle.ranking.specs.Tables.{IsRow}
+use Rattle.ranking.specs.Tables.{used, IsRow}
 use Rattle.ranking.proofs.Filling.{partway_start, added_at, sum_fits, partway_more}
 use Rattle.ranking.proofs.point_table.PointTable.add_point.Goals as goal
 use Rattle.ranking.proofs.point_table.PointTable.add_point.Goals.{After-shifted-more}

@@ -1,6 +1,5 @@
 use Rattle.std.proofs.Common.{◌≡◌, ℕ, ◌+◌, ◌-◌, ◌<◌, ◌≤◌, length, slice_index_or}
-use Rattle.ranking.specs.Lists.{ways, used}
-use Rattle.ranking.specs.Tables.{IsPointTable}
+use Rattle.ranking.specs.Tables.{ways, used, IsPointTable}
 use Rattle.ranking.specs.declared.point_table.PointTable.{PointTable}
 use Rattle.ranking.proofs.rank_table.RankTable.new.Given as goal
 
