@@ -75,24 +75,8 @@ def steps_of(text):
 
 # what is no number of a position: a position, a move, a roll, the rule's own words
 PASSED_OVER = re.compile(r"(\d+,){5}\d+|\b[1-6]/(off|[1-5])\b|\b[1-6]-[1-6]\b|7n \+ 1|\b8\.5\b")
-COUNTS = [
-    "no",
-    "one",
-    "two",
-    "three",
-    "four",
-    "five",
-    "six",
-    "seven",
-    "eight",
-    "nine",
-    "ten",
-    "eleven",
-    "twelve",
-    "thirteen",
-    "fourteen",
-    "fifteen",
-]
+COUNTS = "no one two three four five six seven eight nine ten eleven twelve".split()
+COUNTS += ["thirteen", "fourteen", "fifteen"]
 POINTS = ["ace", *COUNTS[2:7]]
 CHECKERS = re.compile(
     rf"(?<!over )\b({'|'.join(COUNTS)}) (?:checkers\b|on the ({'|'.join(POINTS)}) point)",

@@ -11,6 +11,7 @@ declares and nothing else. The package for Python passes its own tests, is accep
 by mypy and is installed by pip without a trace in the checkout; the examples of docs/embedding.md
 and docs/analysts.md do what the pages say."""
 
+import collections
 import ctypes
 import hashlib
 import os
@@ -23,7 +24,6 @@ from pathlib import Path
 
 import pytest
 
-import refusals
 from running import (
     CALLERS,
     HERE,
@@ -40,6 +40,7 @@ from running import (
 )
 from test_boards import FILES as BOARDS
 
+HEADER = (ROOT / "c/bearoff.h").read_text(encoding="utf-8")
 FLAGS = ["-O2", "-Wall", "-Wextra", "-Werror", f"-I{ROOT}/c"]
 PRINTED = "1.250 rolls, 10.208 pips\n4/2 2/1"
 PRINTED_OF_A_BOARD = "12.266 rolls, 100.174 pips"
@@ -90,45 +91,16 @@ def caller(library):
 
 
 BAD = (
-    [b"", b" "]
-    + [
-        line.encode()
-        for line in (
-            "mean",
-            "mean ",
-            " mean 0,0,0,0,0,1",
-            "mean  0,0,0,0,0,1",
-            "mean 0,0,0,0,0,1 ",
-            "Mean 0,0,0,0,0,1",
-            "mean 0,0,0,0,0,01",
-            "mean 0,0,0,0,0,1000",
-            "mean 0,0,0,0,0,-1",
-            "mean 0,0,0,0,1",
-            "mean 0,0,0,0,0,0,1",
-            "play 0,0,0,0,0,1",
-            "play 0,0,0,0,0,1 2",
-            "play 0,0,0,0,0,1 07",
-            "play 0,0,0,0,0,16 07",
-            "play 0,0,0,0,0,16 21",
-            "loss 0,0,0,0,0,1 21",
-            "loss 0,0,0,0,0,1 21 0,0,0,0,0",
-            "loss 0,0,0,0,0,1 21 0,0,0,0,0,16",
-            "loss 0,0,0,0,0,0 21 0,0,0,0,0,0",
-            "loss 0,0,0,0,0,16 21 0,0,0,0,0",
-            "moves 0,0,0,0,0,0 21",
-            "moves 15,0,0,0,0,0 66",
-            "rank 0,0,0,0,0,0",
-            "rank 0,0,0,0,0,1",
-            "rank 0,0,0,0,4,4",
-            "rank 9,0,0,0,1,5",
-            "rank 0,0,0,0,0,15",
-            "rank 0,0,0,0,0,16",
-            "mean 0,0,0,0,0,1\tx",
-            "mean\t0,0,0,0,0,1",
-        )
-    ]
-    + [b"\377\376", b"mean 0,0,0,0,0,1\0", b"\0", b"mean 0,0,0,0,0,1\r "]
-)
+    b"| |mean|mean | mean 0,0,0,0,0,1|mean  0,0,0,0,0,1|mean 0,0,0,0,0,1 |Mean 0,0,0,0,0,1"
+    b"|mean 0,0,0,0,0,01|mean 0,0,0,0,0,1000|mean 0,0,0,0,0,-1|mean 0,0,0,0,1|mean 0,0,0,0,0,0,1"
+    b"|play 0,0,0,0,0,1|play 0,0,0,0,0,1 2|play 0,0,0,0,0,1 07|play 0,0,0,0,0,16 07"
+    b"|play 0,0,0,0,0,16 21|loss 0,0,0,0,0,1 21|loss 0,0,0,0,0,1 21 0,0,0,0,0"
+    b"|loss 0,0,0,0,0,1 21 0,0,0,0,0,16|loss 0,0,0,0,0,0 21 0,0,0,0,0,0"
+    b"|loss 0,0,0,0,0,16 21 0,0,0,0,0|moves 0,0,0,0,0,0 21|moves 15,0,0,0,0,0 66"
+    b"|rank 0,0,0,0,0,0|rank 0,0,0,0,0,1|rank 0,0,0,0,4,4|rank 9,0,0,0,1,5|rank 0,0,0,0,0,15"
+    b"|rank 0,0,0,0,0,16|mean 0,0,0,0,0,1\tx|mean\t0,0,0,0,0,1"
+    b"|\377\376|mean 0,0,0,0,0,1\0|\0|mean 0,0,0,0,0,1\r "
+).split(b"|")
 for length in (127, 128, 129, 130, 131, 5000):
     BAD += [b" " * length, b"mean " + b"0,0,0,0,0,1".rjust(length)]
 BAD = b"".join(line + b"\n" for line in BAD)
@@ -159,8 +131,7 @@ def asked(program, built):
 @pytest.mark.parametrize("exported", ["-g libbearoff.a", "-D libbearoff.so"])
 def test_exports(library, exported):
     """What the header declares, and nothing else, is what a caller can link against."""
-    header = (ROOT / "c/bearoff.h").read_text(encoding="utf-8")
-    declared = sorted(re.findall(r"(?m)^(?:uint32_t|bool) (bearoff_[a-z_]*)\(.*", header))
+    declared = sorted(re.findall(r"(?m)^(?:uint32_t|bool) (bearoff_[a-z_]*)\(.*", HEADER))
     assert declared, "c/bearoff.h declares nothing"
     words = ["nm", "--defined-only", "--format=posix", *exported.split()]
     told = succeed(*words, cwd=library).decode()
@@ -196,7 +167,36 @@ def test_refusals(caller, built, name):
     expect(run(caller(name), built(8)), 0)
 
 
-ROWS = refusals.rows()
+Row = collections.namedtuple("Row", "call state position roll to faults text")
+
+
+def refused_rows():
+    """The rows of refusals.txt: what a call tells that could be refused for several reasons, each row
+    with its reasons."""
+    found = []
+    for line in (HERE / "refusals.txt").read_text(encoding="ascii").splitlines():
+        if not line.startswith("#"):
+            *words, text = *line.split()[:5], line
+            faults = [word for word in line.split()[5:] if word != "none"]
+            found.append(Row(*words, faults, text))
+    return found
+
+
+def statuses():
+    """The statuses of the header by the names of the rows, in its order."""
+    told = re.findall(r"(?m)^    BEAROFF_([A-Z_]+) = (\d+),", HEADER)
+    return {name.lower().replace("_", "-"): int(number) for name, number in told}
+
+
+def order_of_refusals():
+    """The reasons in the order in which they are told: what is none of what a call wants, which C
+    can't be given, and then the statuses as the header has them."""
+    told = re.search(r" Order\. (.*?)\. ", " ".join(HEADER.replace("\n *", "\n").split()))[1]
+    names = re.findall("BEAROFF_([A-Z_]+)", told)
+    return ["bad-line", *(name.lower().replace("_", "-") for name in names)]
+
+
+ROWS = refused_rows()
 # what a row is asked as a line; a die that is none makes it no line
 LINES = {
     "mean": ("mean {position}", "dist {position}", "rank {position}"),
@@ -216,7 +216,7 @@ class TestOrderOfRefusals:
     def test_rows(self):
         """Each row has its reasons in the order of the header, and each two that a call can have
         at once stand in one."""
-        order = refusals.order()
+        order = order_of_refusals()
         for row in ROWS:
             assert row.faults == sorted(row.faults, key=order.index), row.text
         # one position can't be both, and one that is none is neither
@@ -234,7 +234,7 @@ class TestOrderOfRefusals:
     def test_calls(self, caller, built):
         rows = [row for row in ROWS if row.faults[:1] != ["bad-line"]]
         told = succeed(caller("order"), built(8), input="\n".join(row.text for row in rows))
-        number = {**refusals.statuses(), "none": 0}
+        number = {**statuses(), "none": 0}
         wrong = []
         for row, line in zip(rows, told.decode().splitlines(), strict=True):
             wanted = str(number[(row.faults or ["none"])[0]])
@@ -307,9 +307,8 @@ def test_changed_bytes(caller, built, board, note, kind, bound, times):
 
 def test_changed_bytes_of_every_call():
     """Each export that opens bytes, or is given what was opened, is tried on changed ones."""
-    header = (ROOT / "c/bearoff.h").read_text(encoding="utf-8")
-    names = re.findall(r"(?m)^uint32_t (bearoff_\w+)\(const bearoff_file \*", header)
-    names += re.findall(r"(?m)^uint32_t (bearoff_\w*open)\(", header)
+    names = re.findall(r"(?m)^uint32_t (bearoff_\w+)\(const bearoff_file \*", HEADER)
+    names += re.findall(r"(?m)^uint32_t (bearoff_\w*open)\(", HEADER)
     tried = re.findall(r"\bbearoff_\w+", (CALLERS / "reads_outside.c").read_text())
     assert names and {*names} <= {*tried}
 
@@ -333,9 +332,8 @@ def build_stack(bound):
 
 def test_the_stack_that_is_said():
     """The header and the page have these sizes."""
-    header = (ROOT / "c/bearoff.h").read_text(encoding="utf-8")
     page = (ROOT / "docs/embedding.md").read_text(encoding="utf-8")
-    text = " ".join(header.replace("\n *", "").split())
+    text = " ".join(HEADER.replace("\n *", "").split())
     assert f"#define BEAROFF_STACK {FILE_STACK << 10} " in text
     assert f"every other call less than {CALL_STACK} KB." in text
     assert (
@@ -393,8 +391,7 @@ def test_the_stack_of_each_call(caller, kind, bound, note):
 
 def test_the_stack_of_every_call():
     """Each export is among those whose stack is measured."""
-    header = (ROOT / "c/bearoff.h").read_text(encoding="utf-8")
-    declared = re.findall(r"(?m)^(?:uint32_t|bool) bearoff_([a-z_]*)\(.*", header)
+    declared = re.findall(r"(?m)^(?:uint32_t|bool) bearoff_([a-z_]*)\(.*", HEADER)
     measured = re.findall(r"(?:ROW|ONCE)\((\w+)\)", (CALLERS / "stacks.c").read_text())
     assert sorted(declared) == sorted({*measured} - {"name", "nothing"})
 
@@ -428,9 +425,8 @@ def test_rooms(caller):
 def test_sizes(name, source):
     """The rooms that the header names are as large as the contracts say is enough, and no larger;
     the package for JavaScript has them too."""
-    header = (ROOT / "c/bearoff.h").read_text(encoding="utf-8")
     contracts = (ROOT / "crates/bearoff_c/src" / source).read_text(encoding="utf-8")
-    told = re.search(rf"(?m)^#define BEAROFF_{name} (\d+)$", header)[1]
+    told = re.search(rf"(?m)^#define BEAROFF_{name} (\d+)$", HEADER)[1]
     assert {told} == {*re.findall(r"(?m)^    ensures most \{ .*≤ (\d+) \}$", contracts)}
     if name == "RESULTS":
         script = (ROOT / "js/database.js").read_text(encoding="utf-8")
@@ -444,10 +440,9 @@ def test_largest(caller, built):
 
 def test_board_room():
     """The room that the header names is enough for the greatest board file."""
-    header = (ROOT / "c/bearoff.h").read_text(encoding="utf-8")
-    told = int(re.search(r"(?m)^#define BEAROFF_FILE (\d+)$", header)[1])
+    told = int(re.search(r"(?m)^#define BEAROFF_FILE (\d+)$", HEADER)[1])
     assert told >= BOARDS[90][0]
-    assert f"{BOARDS[90][0]:,}" in header
+    assert f"{BOARDS[90][0]:,}" in HEADER
 
 
 @pytest.mark.parametrize("words", [[], ["2"], ["--text"]], ids=["calls", "threads", "text"])
@@ -485,13 +480,12 @@ def test_files(caller, built, board, note, name, kind, bound, step):
 
 def test_status_texts(library):
     """What the library says of each status is what the header says beside it."""
-    header = (ROOT / "c/bearoff.h").read_text(encoding="utf-8")
     said = {
         int(number): text
-        for number, text in re.findall(r"(?m)^    BEAROFF_[A-Z_]+ = (\d+), +/\* (.*) \*/$", header)
+        for number, text in re.findall(r"(?m)^    BEAROFF_[A-Z_]+ = (\d+), +/\* (.*) \*/$", HEADER)
     }
     assert [*said] == [*range(12), *range(16, 28)]
-    room = int(re.search(r"(?m)^#define BEAROFF_STATUS_TEXT (\d+)$", header)[1])
+    room = int(re.search(r"(?m)^#define BEAROFF_STATUS_TEXT (\d+)$", HEADER)[1])
     call = ctypes.CDLL(str(library / "libbearoff.so")).bearoff_status_text
     call.argtypes = [ctypes.c_uint32, ctypes.c_char_p, ctypes.c_size_t, ctypes.c_void_p]
     call.restype = ctypes.c_uint32
@@ -505,7 +499,7 @@ def test_status_texts(library):
 
 def test_the_program_of_the_header(library, room, built):
     """It stands in the first lines of the header, and is compiled as it stands there."""
-    head = (ROOT / "c/bearoff.h").read_text(encoding="utf-8").split("#ifndef")[0]
+    head = HEADER.split("#ifndef")[0]
     program = re.findall(r"(?m)^ \*     (.*)$", head)
     assert len(program) == 15
     Path("it.c").write_text("\n".join(program) + "\n", encoding="utf-8")

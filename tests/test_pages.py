@@ -223,9 +223,9 @@ def compare_quotes(page):
         wrong.append(f"{page}: it quotes no source")
 
 
-def cited(path, crate):
-    """The lemma modules that a file of proofs cites, by their crate."""
-    used = re.findall(r"(?m)^use Rattle\.(\w+)\.proofs\.(\w+)(?:\.(\w+))?", read(path))
+def cited(text, crate):
+    """The lemma modules that a text of proofs cites, by their crate."""
+    used = re.findall(r"(?m)^use Rattle\.(\w+)\.proofs\.(\w+)(?:\.(\w+))?", text)
     found = set()
     for other, folder, name in used:
         if other in crates() and folder[0].isupper():
@@ -236,7 +236,8 @@ def cited(path, crate):
 
 def compare_lemmas(page, crate):
     """The rows about a crate: a law or a lemma module in the first column, the words of its first
-    lines in the second, and what it cites in the last."""
+    lines in the second, and what it cites in the last; a law may be a set of lemmas in a module.
+    """
     there, begins = {}, {}
     for path in files(f"crates/{crate}/proofs", ".antt"):
         law = re.search(r"/(law_\w+)/Answers\.antt$", path)
@@ -244,7 +245,13 @@ def compare_lemmas(page, crate):
         lines = re.match(r"(?:-- .*\n)*", read(path)).group(0)
         if law or (name and lines and not re.search(r"(?m)^pub mod ", read(path))):
             place = law.group(1) if law else name.group(1).replace("/", ".")
-            there[place] = cited(path, crate)
+            there[place] = cited(read(path), crate)
+            begins[place] = re.sub(r"\s*(?:^|\n)-- ", " ", lines).strip()
+        of_law = r"\n\n((?:-- .*\n)+)pub ruleset (law_\w+) = \(([^)]*)\)"
+        for lines, place, lemmas in re.findall(of_law, read(path)):
+            names = "|".join(re.findall(r"[^\s,]+", lemmas))
+            uses = re.findall(rf"(?m)^use .*[{{ ](?:{names})[,}}].*$", read(path))
+            there[place] = cited("\n".join(uses), crate)
             begins[place] = re.sub(r"\s*(?:^|\n)-- ", " ", lines).strip()
     rows = list(rows_of(page, crate))
     compare_names(page, f"law or module of {crate}", [name for name, *_ in rows], there)
@@ -381,26 +388,10 @@ def compare_figures(pages):
 def source_words():
     """Every name that the sources have, and those of tests, and of what makes and measures."""
     folders = (
-        "crates",
-        "c",
-        "python",
-        "js",
-        "rust",
-        "web",
-        "tests",
-        "packaging",
-        "tools",
-        "bench",
-        "completions",
-        "second_opinion",
-        ".ci",
+        "crates c python js rust web tests packaging tools bench completions second_opinion .ci"
     )
-    paths = [
-        path
-        for folder in folders
-        for path in files(folder, "")
-        if not re.search(r"__pycache__|node_modules|\.(png|wasm)$", path)
-    ]
+    paths = [path for folder in folders.split() for path in files(folder, "")]
+    paths = [it for it in paths if not re.search(r"__pycache__|node_modules|\.(png|wasm)$", it)]
     found = set()
     for path in [*paths, "Makefile", "bearoff", "crates.txt", "CHANGELOG.md", "VERSION"]:
         text = (ROOT / path).read_text(encoding="utf-8", errors="ignore")

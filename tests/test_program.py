@@ -54,6 +54,11 @@ def rows(text):
     return [tuple(cell.strip() for cell in line.split("|")) for line in text.strip().split("\n")]
 
 
+def cells(text):
+    """All cells of a table."""
+    return [cell for row in rows(text) for cell in row]
+
+
 def digest(data):
     return hashlib.sha256(data).hexdigest()
 
@@ -63,6 +68,11 @@ def damage(file, source, place, *values):
     data = bytearray(Path(source).read_bytes())
     data[place : place + len(values)] = bytes(values)
     Path(file).write_bytes(data)
+
+
+def cut(file, source, size):
+    """A copy of the first bytes of a file."""
+    Path(file).write_bytes(Path(source).read_bytes()[:size])
 
 
 def expect_refused(ask, command, file, line):
@@ -153,8 +163,7 @@ class TestCommands:
         expect_same(file, built(6, is_new=True), f"upgrade {words}")
 
     @pytest.mark.parametrize(
-        "words",
-        ["-- six", "six --", "-", "-- -", "-- --pips", "-- -x", "-- -y", "-- --", "-- --board"],
+        "words", cells("-- six|six --|-|-- -|-- --pips|-- -x|-- -y|-- --|-- --board")
     )
     def test_spellings_of_check(self, files, ask, words):
         for name in ("-", "--pips", "-x", "-y", "--", "--board"):
@@ -163,25 +172,18 @@ class TestCommands:
 
     @pytest.mark.parametrize(
         "words",
-        [
-            "--cache=3 eight",
-            "eight --cache 3",
-            "eight --cache=3",
-            "-- eight",
-            "--cache 3 -- eight",
-            "--cache=3 -- eight",
-        ],
+        cells(
+            "--cache=3 eight | eight --cache 3 | eight --cache=3 | -- eight | --cache 3 -- eight"
+            " | --cache=3 -- eight"
+        ),
     )
     def test_spellings_of_query(self, files, ask, words):
         expect(ask("query " + words, THREE), 0, REPLIES)
 
     def test_query_of_a_file_with_a_dash(self, files, ask):
         os.rename("three", "-z")
-        expect(
-            ask("query -- -z", "mean 0,0,1,0,0,0\nmean 0,0,0,1,0,0"),
-            0,
-            "mean 1/1 epc 49/6 8.167\nerror over-bound",
-        )
+        told = "mean 1/1 epc 49/6 8.167\nerror over-bound"
+        expect(ask("query -- -z", "mean 0,0,1,0,0,0\nmean 0,0,0,1,0,0"), 0, told)
 
     @pytest.mark.parametrize("words", ["-- three", "three --", "-- -z"])
     def test_spellings_of_audit(self, files, ask, words):
@@ -196,68 +198,25 @@ class TestCommands:
     # words that are refused: a text on standard error alone, and no file
     @pytest.mark.parametrize(
         "words",
-        [
-            "build --pips x large",
-            "build --pips 256 large",
-            "build large",
-            "build --pips 8",
-            "check",
-            "query --cache 0 eight",
-            "query --cache 65536 eight",
-            "query eight eight",
-            "upgrade eight",
-            "build --pips=x large",
-            "build --pips= large",
-            "build --pips=256 large",
-            "build --pips=8",
-            "build --pips=8 --",
-            "build -- large --pips 8",
-            "build -- --pips 8 large",
-            "build --pips=8 --pips=8 large",
-            "build --pips=8 -large",
-            "query --cache=0 eight",
-            "query --cache=65536 eight",
-            "query --cache= eight",
-            "query -- eight --cache=3",
-            "check --",
-            "audit --",
-            "query --",
-            "upgrade --",
-            "upgrade -- eight",
-            "-- check eight",
-            "-- --",
-            "-- nothing",
-            "upgrade eight large large",
-            "ask",
-            "ask eight",
-            "ask --",
-            "ask -- eight",
-            "ask --board eight help",
-            "ask eight help -x",
-            "ask eight --cache 3 help",
-            "about",
-            "about --",
-            "about eight eight",
-            "about --board eight",
-            "about -- eight eight",
-            "nothing",
-            "build --board",
-            "build --board --",
-            "build --board large large",
-            "build --board=large",
-            "build --board --board large",
-            "build --pips --board large",
-            "check --board",
-            "check eight --board large",
-            "check --board=eight",
-            "query --board",
-            "query eight --board eight",
-            "query --cache --board eight",
-            "audit --board",
-            "audit --board eight eight",
-            "upgrade --board eight large",
-            "--board eight",
-        ],
+        cells(
+            """
+        build --pips x large | build --pips 256 large | build large | build --pips 8 | check
+        query --cache 0 eight | query --cache 65536 eight | query eight eight | upgrade eight
+        build --pips=x large | build --pips= large | build --pips=256 large | build --pips=8
+        build --pips=8 -- | build -- large --pips 8 | build -- --pips 8 large
+        build --pips=8 --pips=8 large | build --pips=8 -large | query --cache=0 eight
+        query --cache=65536 eight | query --cache= eight | query -- eight --cache=3 | check --
+        audit -- | query -- | upgrade -- | upgrade -- eight | -- check eight | -- -- | -- nothing
+        upgrade eight large large | ask | ask eight | ask -- | ask -- eight
+        ask --board eight help | ask eight help -x | ask eight --cache 3 help | about | about --
+        about eight eight | about --board eight | about -- eight eight | nothing | build --board
+        build --board -- | build --board large large | build --board=large
+        build --board --board large | build --pips --board large | check --board
+        check eight --board large | check --board=eight | query --board
+        query eight --board eight | query --cache --board eight | audit --board
+        audit --board eight eight | upgrade --board eight large | --board eight
+    """
+        ),
     )
     def test_words_that_are_refused(self, files, ask, words):
         done = ask(words)
@@ -277,13 +236,8 @@ class TestCommands:
     )
     def test_options_beside_board(self, files, ask, words, option):
         usage = {"--pips": BUILD_USAGE, "--cache": "Usage: bearoff query [OPTIONS] <FILE>"}[option]
-        expect(
-            ask(words),
-            2,
-            "",
-            f"error: the argument '{option} <N>' cannot be used with '--board'\n\n"
-            f"{usage}\n\nFor more information, try '--help'.",
-        )
+        told = f"error: the argument '{option} <N>' cannot be used with '--board'\n\n{usage}"
+        expect(ask(words), 2, "", f"{told}\n\nFor more information, try '--help'.")
 
     @pytest.mark.parametrize(
         "words",
@@ -298,12 +252,8 @@ class TestCommands:
         assert not [it for it in told if it != "\n" and not it.isprintable()] and "\nX" not in told
 
     def test_a_build_without_a_bound(self, files, ask):
-        expect(
-            ask("build large"),
-            2,
-            "",
-            f"error: --pips is missing\n\n{BUILD_USAGE}\n\nFor more information, try '--help'.",
-        )
+        told = f"error: --pips is missing\n\n{BUILD_USAGE}\n\nFor more information, try '--help'."
+        expect(ask("build large"), 2, "", told)
 
     # the help of a command tells of board files, and of what refuses one
     @pytest.mark.parametrize("name", ["build", "check", "query", "audit"])
@@ -366,17 +316,10 @@ class TestCommands:
 
     @pytest.mark.parametrize(
         "words",
-        [
-            "",
-            "--help",
-            "check one",
-            "query one",
-            "ask one help",
-            "about one",
-            "audit one",
-            "build --pips 1 other",
-            "upgrade eight other",
-        ],
+        cells(
+            """| --help | check one | query one | ask one help | about one | audit one
+            build --pips 1 other | upgrade eight other"""
+        ),
     )
     def test_a_full_output(self, files, program, full, words):
         with open(full, "wb") as output:
@@ -390,13 +333,8 @@ class TestCommands:
 
     def test_full_outputs(self, files, program, full):
         with open(full, "wb") as output:
-            done = subprocess.run(
-                [program, "check", "nothing"],
-                stdin=subprocess.DEVNULL,
-                stdout=output,
-                stderr=output,
-            )
-        assert done.returncode == 1
+            how = {"stdin": subprocess.DEVNULL, "stdout": output, "stderr": output}
+            assert subprocess.run([program, "check", "nothing"], **how).returncode == 1
 
     def test_a_reader_that_goes_away(self, room, program):
         with open("lines", "wb") as lines:
@@ -425,22 +363,11 @@ class TestClosedStreams:
     where it needs none. Where the root folder can't be opened to stand in for a stream, it says
     so."""
 
-    WORDS = [
-        "",
-        "--help",
-        "build --pips 3 made",
-        "check three",
-        "query three",
-        "query --cache 2 three",
-        "ask three help",
-        "audit three",
-        "upgrade three made",
-        "build --board made",
-        "check --board board",
-        "query --board board",
-        "ask board help",
-        "audit --board board",
-    ]
+    WORDS = cells(
+        """| --help | build --pips 3 made | check three | query three | query --cache 2 three
+        ask three help | audit three | upgrade three made | build --board made
+        check --board board | query --board board | ask board help | audit --board board"""
+    )
     every_way = pytest.mark.parametrize("closed", ["0", "1", "2", "01", "02", "12", "012"])
 
     @every_way
@@ -453,14 +380,9 @@ class TestClosedStreams:
         if os.path.exists("made"):
             whole = Path("made").read_bytes()
             os.remove("made")
-        reads = words == "" or words.startswith("query")
-        error = (
-            "bearoff: read"
-            if reads and "0" in closed
-            else "bearoff: write"
-            if "1" in closed
-            else ""
-        )
+        error = "bearoff: write" if "1" in closed else ""
+        if "0" in closed and (words == "" or words.startswith("query")):
+            error = "bearoff: read"
 
         def close():
             for stream in closed:
@@ -485,13 +407,8 @@ class TestClosedStreams:
 
         # it waits for what the pipe will give
         with open("pipe", "r+b", buffering=0):
-            child = subprocess.Popen(
-                [program, "check", "pipe"],
-                stdin=subprocess.DEVNULL,
-                stdout=subprocess.DEVNULL,
-                stderr=subprocess.DEVNULL,
-                preexec_fn=close,
-            )
+            streams = dict.fromkeys(("stdin", "stdout", "stderr"), subprocess.DEVNULL)
+            child = subprocess.Popen([program, "check", "pipe"], preexec_fn=close, **streams)
             wait_until(lambda: str(room / "pipe") in opened_by(child.pid).values())
             # a list that was made while files were opened may leave some out
             opened = opened_by(child.pid)
@@ -550,15 +467,9 @@ class TestClosedStreams:
 
 
 HEADERS = {
-    "no bytes": (lambda: Path("bad").write_bytes(b""), "header too-short"),
-    "31 bytes": (
-        lambda: Path("bad").write_bytes(Path("one").read_bytes()[:31]),
-        "header too-short",
-    ),
-    "a byte less": (
-        lambda: Path("bad").write_bytes(Path("one").read_bytes()[:883]),
-        "header bad-length",
-    ),
+    "no bytes": (lambda: cut("bad", "one", 0), "header too-short"),
+    "31 bytes": (lambda: cut("bad", "one", 31), "header too-short"),
+    "a byte less": (lambda: cut("bad", "one", 883), "header bad-length"),
     "a byte more": (lambda: damage("bad", "one", 884, 0), "header bad-length"),
     "magic": (lambda: damage("bad", "one", 0, 0), "header bad-magic"),
     "version 3": (lambda: damage("bad", "one", 9, 3), "header bad-version"),
@@ -588,6 +499,7 @@ def play_worse():
     damage("bad", "bad", 32 + 426 * 44 + 58, *b"".join(shares))
 
 
+PLAY_OF_44 = 32 + 426 * 44 + 18
 # a mean, a play, a share, a play that isn't least (of rank 44, the one of 21 recorded as rank 13),
 # alone and with the numbers of that play, numbers that are too large to be added, and a mean in a
 # file of version 2
@@ -595,10 +507,7 @@ RECORDS = {
     "a mean": (lambda: damage("bad", "one", 473, 1), "mean rank 1"),
     "a play": (lambda: damage("bad", "one", 475, 1), "play rank 1 roll 0"),
     "a share": (lambda: damage("bad", "one", 883, 1), "spread rank 1 k 22"),
-    "not least": (
-        lambda: damage("bad", "eight", 32 + 426 * 44 + 18, 0, 13),
-        "not-least rank 44 roll 1",
-    ),
+    "not least": (lambda: damage("bad", "eight", PLAY_OF_44, 0, 13), "not-least rank 44 roll 1"),
     "not least, with its numbers": (play_worse, "not-least rank 44 roll 1"),
     "large numbers": (
         lambda: Path("bad").write_bytes(Path("one").read_bytes()[:458] + b"\xff" * 426),
@@ -634,9 +543,7 @@ class TestLongFiles:
             16777216,
             16777217,
             16804512,
-            20000000,
-            20000001,
-            20000002,
+            *range(20000000, 20000003),
             20065537,
             40000000,
         ],
@@ -802,13 +709,10 @@ class TestChanges:
     )
     @pytest.mark.parametrize(
         "line",
-        [
-            "mean 1,0,0,0,0,0",
-            "dist 1,0,0,0,0,0",
-            "play 1,1,0,0,0,0 21",
-            "moves 1,1,0,0,0,0 21",
-            "loss 1,1,0,0,0,0 21 1,0,0,0,0,0",
-        ],
+        cells(
+            """mean 1,0,0,0,0,0 | dist 1,0,0,0,0,0 | play 1,1,0,0,0,0 21
+            moves 1,1,0,0,0,0 21 | loss 1,1,0,0,0,0 21 1,0,0,0,0,0"""
+        ),
     )
     @pytest.mark.parametrize(
         "first, replies",
@@ -1018,13 +922,12 @@ class TestBounds:
 def expect_audit(ask, built, bound, sha, **how):
     """The lines of an audit, all of them, have the digest that was counted outside."""
     done = ask(["audit", built(bound)], **how)
-    expect_that(
-        done.status == 0 and digest(done.output) == sha,
-        done,
-        f"status 0, and the audit with digest {sha}",
-    )
+    is_so = done.status == 0 and digest(done.output) == sha
+    expect_that(is_so, done, f"status 0, and the audit with digest {sha}")
 
 
+AUDIT_OF_8 = "3041c5b24c9e44ff66126de1f8b8282b862e173eae54d046657a8655eac28635"
+AUDIT_OF_44 = "15ed1886bb3205fe704966262c6270292adb462fb6422948b1fdb00049aa3392"
 AUDIT_OF_58 = "efcf3cd9e443566c68d98ee992ddc05fc44574da556e8fc658fd88f3796b1ab2"
 
 
@@ -1094,7 +997,7 @@ class TestAsk:
     @pytest.mark.parametrize("name", ["eight", "new", "board"])
     def test_files_that_are_cut(self, files, ask, board, name, size):
         shutil.copy(board(8), "board")
-        Path("cut").write_bytes(Path(name).read_bytes()[:size])
+        cut("cut", name, size)
         fault = "too-short" if size < 32 else "bad-length"
         expect(ask("ask cut help"), 3, "", f"bearoff: refused header {fault}")
 
@@ -1153,7 +1056,7 @@ class TestAbout:
     @pytest.mark.parametrize("name", ["eight", "new", "board"])
     def test_files_that_are_cut(self, files, ask, board, name, size):
         shutil.copy(board(8), "board")
-        Path("cut").write_bytes(Path(name).read_bytes()[:size])
+        cut("cut", name, size)
         fault = "too-short" if size < 32 else "bad-length"
         expect(ask("about cut"), 3, "", explained(f"header {fault}", "cut"))
 
@@ -1183,9 +1086,7 @@ class TestAbout:
 
 class TestAudits:
     def test_of_8(self, ask, built):
-        expect_audit(
-            ask, built, 8, "3041c5b24c9e44ff66126de1f8b8282b862e173eae54d046657a8655eac28635"
-        )
+        expect_audit(ask, built, 8, AUDIT_OF_8)
 
 
 class TestBoards:
@@ -1236,14 +1137,13 @@ class TestBoards:
             ("build --board nowhere/newer", 1, "open"),
             ("build --board {full}", 1, "write"),
             *(
-                (f"{command} --board nothing", 1, "open")
+                (f"{command} --board {file}", *told)
                 for command in ("check", "query", "audit")
-            ),
-            *((f"{command} --board .", 1, "file") for command in ("check", "query", "audit")),
-            *(
-                (f"{command} --board {file}", 3, "refused header bad-version")
-                for command in ("check", "query", "audit")
-                for file in ("eight", "new")
+                for file, told in (
+                    ("nothing", (1, "open")),
+                    (".", (1, "file")),
+                    *((it, (3, "refused header bad-version")) for it in ("eight", "new")),
+                )
             ),
         ],
     )
@@ -1264,22 +1164,16 @@ class TestBoards:
 
     @pytest.mark.parametrize("words", ("check", "query", "audit", "build"))
     def test_a_full_output(self, room, program, whole, full, words):
+        asked = [program, words, "--board", "made" if words == "build" else whole]
+        how = {"input": THREE.encode(), "stderr": subprocess.PIPE, "timeout": 60}
         with open(full, "wb") as output:
-            done = subprocess.run(
-                [program, words, "--board", "made" if words == "build" else whole],
-                input=THREE.encode(),
-                stdout=output,
-                stderr=subprocess.PIPE,
-                timeout=60,
-            )
+            done = subprocess.run(asked, stdout=output, **how)
         assert (done.returncode, done.stderr) == (1, b"bearoff: write\n")
 
 
 class TestLongAudits:
     def test_of_44(self, ask, built):
-        expect_audit(
-            ask, built, 44, "15ed1886bb3205fe704966262c6270292adb462fb6422948b1fdb00049aa3392"
-        )
+        expect_audit(ask, built, 44, AUDIT_OF_44)
 
     def test_of_58(self, ask, built):
         expect_audit(ask, built, 58, AUDIT_OF_58)
@@ -1322,11 +1216,8 @@ class TestSmallStack:
         expect(ask_it(["ask", str(built(58)), *self.LINES.split("\n")]), 0, self.TOLD)
 
     def test_about(self, ask_it, built):
-        expect(
-            ask_it(["about", str(built(58))]),
-            0,
-            "kind database\nversion 2\npips 58\npositions 46062",
-        )
+        told = "kind database\nversion 2\npips 58\npositions 46062"
+        expect(ask_it(["about", str(built(58))]), 0, told)
 
     def test_no_words(self, ask_it):
         expect(ask_it("", self.LINES.split("\n")[0]), 0, self.TOLD.split("\n")[0])

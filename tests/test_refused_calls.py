@@ -70,22 +70,8 @@ GIVEN = ["input", "interrupted-input", "slow-input"]
 TOLD = ["output", "idle-output", "interrupted-output", "slow-output"]
 OPENED = ["open", "interrupted-open"]
 LOADED = ["load", "interrupted-load", "slow-load"]
-STORED = [
-    "store",
-    "idle-store",
-    "interrupted-store",
-    "slow-store",
-    "closed-open",
-    "link",
-    "tell",
-    "mode",
-    "interrupted-mode",
-    "sync",
-    "unable-sync",
-    "unsupported-sync",
-    "interrupted-sync",
-    "rename",
-]
+STORED = "store idle-store interrupted-store slow-store closed-open link tell mode".split()
+STORED += "interrupted-mode sync unable-sync unsupported-sync interrupted-sync rename".split()
 
 COMMANDS = {
     "no words": ("", ["growth", *GIVEN, *TOLD]),

@@ -186,19 +186,8 @@ class TestWheel:
         need("pip")
         folder = tmp_path_factory.mktemp("site")
         wheel = next(release.one.glob("*.whl"))
-        succeed(
-            "/usr/bin/python3",
-            "-m",
-            "pip",
-            "install",
-            "-q",
-            "--no-index",
-            "--no-deps",
-            "--target",
-            folder,
-            wheel,
-            timeout=300,
-        )
+        words = "/usr/bin/python3 -m pip install -q --no-index --no-deps --target".split()
+        succeed(*words, folder, wheel, timeout=300)
         yield folder
         shutil.rmtree(folder)
 

@@ -74,14 +74,8 @@ for bound in (8, 20, 90):
 PROMISED = (
     "no words",
     "help",
-    "build of 8 pips",
-    "check of 8 pips",
-    "query of 8 pips",
-    "ask of 8 pips",
-    "about of 8 pips",
-    "audit of 8 pips",
-    "query of 8 pips by pages of 100 records",
-    "query of 44 pips by pages of 100 records",
+    *(f"{it} of 8 pips" for it in ("build", "check", "query", "ask", "about", "audit")),
+    *(f"query of {it} pips by pages of 100 records" for it in (8, 44)),
 )
 
 # what is said there to have been enough, in KB

@@ -32,28 +32,14 @@ NAMES = ("long", "short", "three", "money", "cubeless")
 
 # the bearoff plays of the stored match: the move, the player, the position, the roll and where it
 # led to
-WANTED = (
-    (
-        "15 1 2,3,3,3,3,1 51 1,3,3,3,2,1",
-        "16 1 1,3,3,3,2,1 63 1,3,2,3,2,0",
-        "17 1 1,3,2,3,2,0 41 0,3,2,2,2,0",
-    ),
-    (
-        "18 0 0,2,1,1,5,3 63 0,2,0,1,5,2",
-        "18 1 0,3,2,2,2,0 63 0,3,1,2,1,0",
-        "19 0 0,2,0,1,5,2 51 1,1,0,1,4,2",
-    ),
-    (
-        "19 1 0,3,1,2,1,0 32 0,2,0,2,1,0",
-        "20 0 1,1,0,1,4,2 42 1,0,0,0,4,2",
-        "20 1 0,2,0,2,1,0 22 0,0,0,1,1,0",
-    ),
-    (
-        "21 0 1,0,0,0,4,2 32 1,0,0,0,3,2",
-        "21 1 0,0,0,1,1,0 21 0,1,0,1,0,0",
-        "22 0 1,0,0,0,3,2 53 1,0,1,0,2,1",
-    ),
-    ("22 1 0,1,0,1,0,0 32 1,0,0,0,0,0",),
+WANTED = re.split(
+    r"[|\n]",
+    """\
+15 1 2,3,3,3,3,1 51 1,3,3,3,2,1|16 1 1,3,3,3,2,1 63 1,3,2,3,2,0|17 1 1,3,2,3,2,0 41 0,3,2,2,2,0
+18 0 0,2,1,1,5,3 63 0,2,0,1,5,2|18 1 0,3,2,2,2,0 63 0,3,1,2,1,0|19 0 0,2,0,1,5,2 51 1,1,0,1,4,2
+19 1 0,3,1,2,1,0 32 0,2,0,2,1,0|20 0 1,1,0,1,4,2 42 1,0,0,0,4,2|20 1 0,2,0,2,1,0 22 0,0,0,1,1,0
+21 0 1,0,0,0,4,2 32 1,0,0,0,3,2|21 1 0,0,0,1,1,0 21 0,1,0,1,0,0|22 0 1,0,0,0,3,2 53 1,0,1,0,2,1
+22 1 0,1,0,1,0,0 32 1,0,0,0,0,0""",
 )
 
 
@@ -101,6 +87,11 @@ def changed(line: int, old: str, new: str) -> str:
         raise AssertionError((lines[line - 1], old))
     lines[line - 1] = lines[line - 1].replace(old, new)
     return "\n".join(lines)
+
+
+def at(line: int, old: str, new: str, what: str) -> Tuple[str, int, str]:
+    """A change in one line, that line, and what is said of it."""
+    return changed(line, old, new), line, what
 
 
 def as_xg(match: str) -> str:
@@ -155,7 +146,7 @@ class Stored(unittest.TestCase):
             [point for point in range(26) if first.before[point] != first.after[point]], [14, 24]
         )
         graded = grade(match, database(58))
-        self.assertEqual(rows(graded), [row for part in WANTED for row in part])
+        self.assertEqual(rows(graded), WANTED)
         self.assertEqual([graded.length, graded.games, graded.bound], [1, 1, 58])
         self.assertEqual([player.name for player in graded.players], ["gnubg", "root"])
         self.assertEqual([player.plays for player in graded.players], [5, 8])
@@ -179,10 +170,7 @@ class Stored(unittest.TestCase):
             for side, player in enumerate(graded.players):
                 lost = sum(loss for play, loss in zip(graded.plays, told) if play.player == side)
                 self.assertEqual((player.loss, player.pips), (lost, lost * Fraction(49, 6)))
-                over = (
-                    sum(row.split()[1] == str(side) for part in WANTED for row in part)
-                    - player.plays
-                )
+                over = sum(row.split()[1] == str(side) for row in WANTED) - player.plays
                 self.assertEqual(player.over_bound, over + (side == 0))
 
     def test_over_the_bound(self) -> None:
@@ -327,46 +315,41 @@ class Refusals(unittest.TestCase):
             ("\n\n 7 point match\n\n Game 1\n", 7, "the file ends before a game has begun"),
             ("MZ\0\1", 1, "a match begins with its length"),
             (SHORT.replace(" 1 point match", ""), 5, "a match begins with its length"),
-            (changed(3, "1 point match", "one point match"), 3, "a match begins with its length"),
-            (changed(5, "Game 1", "Game 2"), 5, "it should be game 1"),
+            at(3, "1 point match", "one point match", "a match begins with its length"),
+            at(5, "Game 1", "Game 2", "it should be game 1"),
             (changed(5, "Game 1", ""), 6, "a game begins with its number"),
-            (changed(6, "root : 0", "root 0"), 6, "names both players"),
-            (
-                changed(6, "gnubg : 0                      root : 0", "  1) 31: 8/5 6/5"),
+            at(6, "root : 0", "root 0", "names both players"),
+            at(
                 6,
+                "gnubg : 0                      root : 0",
+                "  1) 31: 8/5 6/5",
                 "names both players",
             ),
-            (changed(6, "gnubg", "A : 5 B"), 6, "where one name ends can't be told"),
-            (changed(8, " 2)", " 3)"), 8, "it should be move 2"),
-            (changed(8, " 2)", " 1)"), 8, "it should be move 2"),
-            (changed(8, " 2)", " 2"), 8, "neither a numbered move nor the end of a game"),
-            (
-                changed(8, " 2) 32", " 2)      32"),
+            at(6, "gnubg", "A : 5 B", "where one name ends can't be told"),
+            at(8, " 2)", " 3)", "it should be move 2"),
+            at(8, " 2)", " 1)", "it should be move 2"),
+            at(8, " 2)", " 2", "neither a numbered move nor the end of a game"),
+            at(8, " 2) 32", " 2)      32", "whose column the move stands in can't be told"),
+            at(
                 8,
-                "whose column the move stands in can't be told",
-            ),
-            (
-                changed(8, "43: 25/21 24/21", "43: 25/21 24/21 65: 24/13"),
-                8,
+                "43: 25/21 24/21",
+                "43: 25/21 24/21 65: 24/13",
                 "there are more entries than columns",
             ),
-            (
-                changed(7, "64: 24/18 18/14", "64: 24/18 18/14 11:"),
-                7,
-                "there are more entries than columns",
-            ),
-            (
-                changed(9, "21/20 24/20", "21/20 24/x"),
+            at(7, "64: 24/18 18/14", "64: 24/18 18/14 11:", "there are more entries than columns"),
+            at(
                 9,
+                "21/20 24/20",
+                "21/20 24/x",
                 "neither a roll nor a double nor what answers one: 24/x",
             ),
-            (changed(9, "41:", "47:"), 9, "neither a roll nor a double nor what answers one: 47:"),
-            (changed(9, "41: 21/20 24/20", "41: ????"), 9, "neither a roll nor a double"),
-            (changed(9, "41: 21/20 24/20", "Doubles => two"), 9, "neither a roll nor a double"),
-            (changed(9, "24/20", "20/24"), 9, "no checker moves so: 20/24"),
-            (changed(9, "24/20", "24/24"), 9, "no checker moves so: 24/24"),
-            (changed(9, "24/20", "26/22"), 9, "no checker moves so: 26/22"),
-            (changed(9, "24/20", "Cannot Move"), 9, "not a move: Cannot"),
+            at(9, "41:", "47:", "neither a roll nor a double nor what answers one: 47:"),
+            at(9, "41: 21/20 24/20", "41: ????", "neither a roll nor a double"),
+            at(9, "41: 21/20 24/20", "Doubles => two", "neither a roll nor a double"),
+            at(9, "24/20", "20/24", "no checker moves so: 20/24"),
+            at(9, "24/20", "24/24", "no checker moves so: 24/24"),
+            at(9, "24/20", "26/22", "no checker moves so: 26/22"),
+            at(9, "24/20", "Cannot Move", "not a move: Cannot"),
             (
                 SHORT + "\n Game 2\n gnubg : 0          boot : 1\n",
                 end + 1,
@@ -384,52 +367,32 @@ class Refusals(unittest.TestCase):
 
     def test_illegal(self) -> None:
         for match, line, what in (
-            (changed(7, "24/18 18/14", "23/22 22/21"), 7, "root has no checker on point 23"),
-            (changed(8, "24/21 13/11*", "24/21 22/20"), 8, "gnubg has no checker on point 22"),
-            (changed(8, "25/21 24/21", "13/9 13/10"), 8, "root moves with a checker on the bar"),
-            (changed(9, "21/20 24/20", "25/24 24/20"), 9, "gnubg has no checker on the bar"),
-            (
-                changed(7, "24/18 18/14", "13/7 24/19"),
-                7,
-                "on point 19 stand 5 checkers of the other player",
-            ),
-            (changed(7, "24/18 18/14", "24/18* 18/14"), 7, "no checker can be hit on point 18"),
-            (
-                changed(7, "24/18 18/14", "24/18 6/1"),
-                7,
-                "on point 1 stand 2 checkers of the other player",
-            ),
-            (changed(10, "15/9 15/9", "15/9 15/2"), 10, "the play is of more pips than the roll"),
-            (
-                changed(22, "12/9 9/6 3/0 3/0", "12/8 3/0"),
+            at(7, "24/18 18/14", "23/22 22/21", "root has no checker on point 23"),
+            at(8, "24/21 13/11*", "24/21 22/20", "gnubg has no checker on point 22"),
+            at(8, "25/21 24/21", "13/9 13/10", "root moves with a checker on the bar"),
+            at(9, "21/20 24/20", "25/24 24/20", "gnubg has no checker on the bar"),
+            at(7, "24/18 18/14", "13/7 24/19", "on point 19 stand 5 checkers of the other player"),
+            at(7, "24/18 18/14", "24/18* 18/14", "no checker can be hit on point 18"),
+            at(7, "24/18 18/14", "24/18 6/1", "on point 1 stand 2 checkers of the other player"),
+            at(10, "15/9 15/9", "15/9 15/2", "the play is of more pips than the roll"),
+            at(
                 22,
+                "12/9 9/6 3/0 3/0",
+                "12/8 3/0",
                 "gnubg bears off with a checker outside the home board",
             ),
-            (changed(7, "24/18 18/14", "24/13"), 7, "the play is of more pips than the roll"),
-            (
-                changed(10, "21/15 21/15 15/9 15/9", "21/15(4)"),
-                10,
-                "root has no checker on point 21",
-            ),
-            (
-                changed(20, "13/11 11/5", "6/0 6/4"),
+            at(7, "24/18 18/14", "24/13", "the play is of more pips than the roll"),
+            at(10, "21/15 21/15 15/9 15/9", "21/15(4)", "root has no checker on point 21"),
+            at(
                 20,
+                "13/11 11/5",
+                "6/0 6/4",
                 "gnubg bears off with a checker outside the home board",
             ),
-            (
-                changed(25, "5/0 2/1", "5/0"),
-                25,
-                "no play of 51 leads from 0,2,0,1,5,2 to 0,2,0,1,4,2",
-            ),
-            (
-                changed(28, "2/0 4/1", "4/2"),
-                28,
-                "no play of 32 leads from 0,1,0,1,0,0 to 0,2,0,0,0,0",
-            ),
-            (
-                changed(28, "5/0 6/3", "Cannot Move"),
-                28,
-                "no play of 53 leads from 1,0,0,0,3,2 to 1,0,0,0,3,2",
+            at(25, "5/0 2/1", "5/0", "no play of 51 leads from 0,2,0,1,5,2 to 0,2,0,1,4,2"),
+            at(28, "2/0 4/1", "4/2", "no play of 32 leads from 0,1,0,1,0,0 to 0,2,0,0,0,0"),
+            at(
+                28, "5/0 6/3", "Cannot Move", "no play of 53 leads from 1,0,0,0,3,2 to 1,0,0,0,3,2"
             ),
         ):
             self.refused(match, "illegal", line, what)
@@ -439,17 +402,17 @@ class Refusals(unittest.TestCase):
             self.assertEqual(SAVED.count(old), 1, old)
             return SAVED.replace(old, new)
 
-        end = SAVED.rstrip().count("\n") + 1
-        head = SAVED.split("\n")[0]
+        once, head = SAVED.rstrip(), SAVED.split("\n")[0]
+        end = once.count("\n") + 1
         for match, reason, line, what in (
             ("(", "malformed", 1, "the last game has no end"),
             ("()", "malformed", 2, "the file ends before a game has begun"),
             ("(;W[31hefe])", "malformed", 1, "aren't named before its first move"),
             ("(;GM[6])(;", "malformed", 1, "the players of the game before aren't named"),
-            (SAVED.rstrip()[:-1], "malformed", end, "the last game has no end"),
-            (SAVED.rstrip() + ")", "malformed", end, "what stands there is in no game"),
-            (SAVED.rstrip() + "W[31hefe]", "malformed", end, "what stands there is in no game"),
-            (SAVED.rstrip() + "\nx", "malformed", end + 1, "neither a property nor"),
+            (once[:-1], "malformed", end, "the last game has no end"),
+            (once + ")", "malformed", end, "what stands there is in no game"),
+            (once + "W[31hefe]", "malformed", end, "what stands there is in no game"),
+            (once + "\nx", "malformed", end + 1, "neither a property nor"),
             (other("GM[6]", "GM[1]"), "variation", 1, "and not the game 1"),
             (other("DT[", "RU[NackGammon]DT["), "variation", 1, "and not NackGammon"),
             (other("DT[", "RU[Crawford:Jacoby:X]DT["), "variation", 1, "and not X"),
@@ -459,18 +422,8 @@ class Refusals(unittest.TestCase):
                 1,
                 "the length of the match isn't told",
             ),
-            (
-                SAVED.rstrip() + other("[length:1]", "[length:3]"),
-                "malformed",
-                end,
-                "or is another one",
-            ),
-            (
-                SAVED.rstrip() + other("PB[root]", "PB[Bob]"),
-                "malformed",
-                end,
-                "are others than those",
-            ),
+            (once + other("[length:1]", "[length:3]"), "malformed", end, "or is another one"),
+            (once + other("PB[root]", "PB[Bob]"), "malformed", end, "are others than those"),
             (head + "\n;W[31hefe](;B[21])", "malformed", 2, "a game has variations"),
             (head + "\n;AE[a:y])", "malformed", 2, "a position is set up"),
             (head + "\n;W[31hefe]\n;W[31hefe])", "turn", 3, "the same player rolls twice"),
@@ -484,14 +437,8 @@ class Refusals(unittest.TestCase):
         ):
             self.refused(match, reason, line, what)
         self.assertEqual(len(read_match(head + "\n;W[31hefe]\n;B[41ab])").plays), 2)
-        for rules in (
-            "[Crawford:CrawfordGame:Jacoby]",
-            "[NoCube]",
-            "[NoCube:Jacoby]",
-            "[NoCube:Crawford:CrawfordGame]",
-            "[NoCube][Crawford]",
-            "[]",
-        ):
+        ruling = "[Crawford:CrawfordGame:Jacoby] [NoCube] [NoCube:Jacoby] [NoCube][Crawford] []"
+        for rules in (*ruling.split(), "[NoCube:Crawford:CrawfordGame]"):
             ruled = read_match(other("DT[", f"RU{rules}DT["))
             self.assertEqual(ruled, read_match(SAVED))
         for variation in ("Nackgammon", "Hypergammon1", "Hypergammon2", "Hypergammon3"):
@@ -826,12 +773,8 @@ class Command(unittest.TestCase):
                 self.assertTrue(run.stderr.startswith(line), run.stderr)
                 self.assertNotIn("Traceback", run.stderr)
             self.assertEqual(self.run_it().returncode, 2)
-            run = self.run_it(
-                "grade",
-                str(STORED),
-                race,
-                environment={**os.environ, "BEAROFF_LIBRARY": str(empty)},
-            )
+            other = {**os.environ, "BEAROFF_LIBRARY": str(empty)}
+            run = self.run_it("grade", str(STORED), race, environment=other)
             self.assertEqual((run.returncode, run.stdout), (1, ""))
             self.assertIn("is no library", run.stderr)
         with open("/dev/full", "w") as full:

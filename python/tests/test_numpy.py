@@ -115,17 +115,10 @@ class Numbers(unittest.TestCase):
 
     def test_each_operator(self) -> None:
         here = database(44)
-        operators: Tuple[str, ...] = (
-            "add",
-            "subtract",
-            "multiply",
-            "divide",
-            "floor_divide",
-            "remainder",
-            "power",
+        operators = (
+            "add subtract multiply divide floor_divide remainder power less less_equal".split()
         )
-        operators += ("less", "less_equal", "greater", "greater_equal", "equal", "not_equal")
-        operators += ("maximum", "minimum")
+        operators += "greater greater_equal equal not_equal maximum minimum".split()
         numbers = [numpy.float64(10.5), numpy.float32(0.5), numpy.int64(3), numpy.uint8(2)]
         numbers += [numpy.array([1.0, 99.0]), numpy.array([1, 2]), 57, 0.5]
         for pips in (here.epc("0,0,0,4,4,1"), here.wastage("0,0,0,4,4,1")):

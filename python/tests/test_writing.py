@@ -36,17 +36,7 @@ WRITERS = {
 }
 """Each command that writes a file, by the ending of its name, with the words before that."""
 
-CALLS: Tuple[str, ...] = (
-    "open",
-    "write",
-    "fstat",
-    "fchown",
-    "fchmod",
-    "removexattr",
-    "setxattr",
-    "fsync",
-)
-CALLS += ("link", "replace", "close")
+CALLS = "open write fstat fchown fchmod removexattr setxattr fsync link replace close".split()
 """The calls of the system at which a run is stopped."""
 
 STOPPED = 99

@@ -53,30 +53,15 @@ def changed_once(chance, texts, times):
 
 def forms(board, position):
     """Texts of real shape, with cubes, scores and offers."""
-    for rest in (
-        "0:0:1:00:0:0:0:0:10",
-        "0:0:-1:00:0:0:1:0:10",
-        "0:0:1:D:0:0:0:0:10",
-        "0:0:-1:D:0:0:3:0:10",
-        "1:1:1:12:3:2:0:7:10",
-        "2:-1:-1:63:4:6:1:7:8",
-        "1:-1:1:55:0:0:2:0:6",
-        "3:1:-1:44:12:14:0:25:10",
-        "0:0:1:61:0:4:1:5:10",
-        "6:1:1:36:0:0:0:0:10",
-    ):
+    rests = """0:0:1:00:0:0:0:0:10 0:0:-1:00:0:0:1:0:10 0:0:1:D:0:0:0:0:10 0:0:-1:D:0:0:3:0:10
+        1:1:1:12:3:2:0:7:10 2:-1:-1:63:4:6:1:7:8 1:-1:1:55:0:0:2:0:6 3:1:-1:44:12:14:0:25:10
+        0:0:1:61:0:4:1:5:10 6:1:1:36:0:0:0:0:10"""
+    for rest in rests.split():
         yield f"XGID={board}:{rest}"
         yield f"{board}:{rest}"
-    for match in (
-        "cAkAAAAAAAAA",
-        "MAEAAAAAAAAA",
-        "cAkFAAAAAAAE",
-        "MIEFAAAAAAAA",
-        "QQnlADAAEAAE",
-        "UQnlADAAEAAE",
-        "MBkAAAAAAAAE",
-        "cBEAAAAAAAAE",
-    ):
+    matches = """cAkAAAAAAAAA MAEAAAAAAAAA cAkFAAAAAAAE MIEFAAAAAAAA
+        QQnlADAAEAAE UQnlADAAEAAE MBkAAAAAAAAE cBEAAAAAAAAE"""
+    for match in matches.split():
         yield f"{position}:{match}"
         yield f"{position}==:{match}"
         yield f"{position} {match}"

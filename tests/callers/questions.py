@@ -50,18 +50,9 @@ def main():
             to = chance.choice(firsts)
             to = chance.choice(list(after(to, int(roll[1]))) or [to])
             print("loss", at, roll, text(to))
-    for line in (
-        "mean 0,0,0,0,0,8",
-        "rank 0,0,0,0,0,16",
-        "mean 0,0,0,0,0,16",
-        "play 0,0,0,0,0,0 11",
-        "play 0,0,0,0,0,1 17",
-        "loss 0,0,0,0,0,1 21 0,0,0,0,0,1",
-        "moves 9,9,0,0,0,0 21",
-        "dist 0,0,0",
-        "nothing 1",
-    ):
-        print(line)
+    print("mean 0,0,0,0,0,8\nrank 0,0,0,0,0,16\nmean 0,0,0,0,0,16\nplay 0,0,0,0,0,0 11")
+    print("play 0,0,0,0,0,1 17\nloss 0,0,0,0,0,1 21 0,0,0,0,0,1\nmoves 9,9,0,0,0,0 21")
+    print("dist 0,0,0\nnothing 1")
 
 
 main()

@@ -54,67 +54,37 @@ typedef struct statuses {
     uint32_t numbers, play, loss;
 } statuses;
 
-static statuses statuses_of(uint32_t numbers, uint32_t play, uint32_t loss) {
-    statuses all = {numbers, play, loss};
-    return all;
-}
-
 static void ask(const bearoff_file *database, bearoff_position at, uint8_t one, uint8_t other,
                 bearoff_position to, statuses wanted, const char *what) {
-    bearoff_number *mean = (bearoff_number *)guarded(sizeof *mean);
-    bearoff_rounded *pips = (bearoff_rounded *)guarded(sizeof *pips);
-    bearoff_shares *shares = (bearoff_shares *)guarded(sizeof *shares);
-    bearoff_recorded_play *play = (bearoff_recorded_play *)guarded(sizeof *play);
-    bearoff_fraction *loss = (bearoff_fraction *)guarded(sizeof *loss);
-    bearoff_result *results = (bearoff_result *)guarded(64 * sizeof *results);
-    size_t *count = (size_t *)guarded(sizeof *count);
-    bearoff_rounded *rolls = (bearoff_rounded *)guarded(sizeof *rolls);
-    bearoff_wasted *wasted = (bearoff_wasted *)guarded(sizeof *wasted);
-    bearoff_chance *within = (bearoff_chance *)guarded(sizeof *within);
-    uint16_t *rank = (uint16_t *)guarded(sizeof *rank);
-    expect(bearoff_rounded_mean(database, &at, rolls) == wanted.numbers, what, 15);
-    expect(bearoff_wastage(database, &at, wasted) == wanted.numbers, what, 16);
-    expect(bearoff_within(database, &at, one, within) == wanted.numbers, what, 17);
-    expect(bearoff_rank(database, &at, rank) == wanted.numbers, what, 18);
-    expect(bearoff_mean(database, &at, mean) == wanted.numbers, what, 1);
-    expect(bearoff_epc(database, &at, pips) == wanted.numbers, what, 2);
-    expect(bearoff_distribution(database, &at, shares) == wanted.numbers, what, 3);
-    expect(bearoff_play(database, &at, one, other, play) == wanted.play, what, 4);
-    expect(bearoff_loss(database, &at, one, other, &to, loss) == wanted.loss, what, 5);
-    expect(bearoff_moves(database, &at, one, other, results, 64, count) == wanted.play, what, 6);
-    if (wanted.numbers) {
-        expect(untouched(mean, sizeof *mean), what, 7);
-        expect(untouched(pips, sizeof *pips), what, 8);
-        expect(untouched(shares, sizeof *shares), what, 9);
-        expect(untouched(rolls, sizeof *rolls), what, 19);
-        expect(untouched(wasted, sizeof *wasted), what, 20);
-        expect(untouched(within, sizeof *within), what, 21);
-        expect(untouched(rank, sizeof *rank), what, 22);
+    static const size_t sizes[] = {
+        sizeof(bearoff_number),  sizeof(bearoff_rounded),       sizeof(bearoff_shares),
+        sizeof(bearoff_rounded), sizeof(bearoff_wasted),        sizeof(bearoff_chance),
+        sizeof(uint16_t),        sizeof(bearoff_recorded_play), 64 * sizeof(bearoff_result),
+        sizeof(size_t),          sizeof(bearoff_fraction)};
+    enum { ROOMS = sizeof sizes / sizeof *sizes, NUMBERS = 7, LOSS = ROOMS - 1 };
+    void *lent[ROOMS];
+    for (int i = 0; i < ROOMS; i++) lent[i] = guarded(sizes[i]);
+    bearoff_result *results = (bearoff_result *)lent[8];
+    uint32_t moves = bearoff_moves(database, &at, one, other, results, 64, (size_t *)lent[9]);
+    const uint32_t told[ROOMS] = {
+        bearoff_mean(database, &at, (bearoff_number *)lent[0]),
+        bearoff_epc(database, &at, (bearoff_rounded *)lent[1]),
+        bearoff_distribution(database, &at, (bearoff_shares *)lent[2]),
+        bearoff_rounded_mean(database, &at, (bearoff_rounded *)lent[3]),
+        bearoff_wastage(database, &at, (bearoff_wasted *)lent[4]),
+        bearoff_within(database, &at, one, (bearoff_chance *)lent[5]),
+        bearoff_rank(database, &at, (uint16_t *)lent[6]),
+        bearoff_play(database, &at, one, other, (bearoff_recorded_play *)lent[7]),
+        moves,
+        moves,
+        bearoff_loss(database, &at, one, other, &to, (bearoff_fraction *)lent[LOSS])};
+    for (int i = 0; i < ROOMS; i++) {
+        uint32_t status = i < NUMBERS ? wanted.numbers : i < LOSS ? wanted.play : wanted.loss;
+        expect(told[i] == status, what, i);
+        expect(status ? untouched(lent[i], sizes[i]) : guards_stand(lent[i], sizes[i]), what,
+               20 + i);
+        let_go(lent[i]);
     }
-    if (wanted.play) {
-        expect(untouched(play, sizeof *play), what, 10);
-        expect(untouched(results, 64 * sizeof *results), what, 11);
-        expect(untouched(count, sizeof *count), what, 12);
-    }
-    if (wanted.loss) expect(untouched(loss, sizeof *loss), what, 13);
-    expect(guards_stand(mean, sizeof *mean) && guards_stand(pips, sizeof *pips) &&
-               guards_stand(shares, sizeof *shares) && guards_stand(play, sizeof *play) &&
-               guards_stand(loss, sizeof *loss) && guards_stand(results, 64 * sizeof *results) &&
-               guards_stand(count, sizeof *count) && guards_stand(rolls, sizeof *rolls) &&
-               guards_stand(wasted, sizeof *wasted) && guards_stand(within, sizeof *within) &&
-               guards_stand(rank, sizeof *rank),
-           what, 14);
-    let_go(rolls);
-    let_go(wasted);
-    let_go(within);
-    let_go(rank);
-    let_go(mean);
-    let_go(pips);
-    let_go(shares);
-    let_go(play);
-    let_go(loss);
-    let_go(results);
-    let_go(count);
 }
 
 /* the calls that list so many from a rank on, and what stays as it was where they are refused */
@@ -214,23 +184,27 @@ static void try_thousandths(void) {
         round_off(times(whole, (uint64_t)k, 0), whole, 1000 * k, "so many wholes");
 }
 
+/* a room has a text and nothing behind it, or nothing where it is too small, and beside it stands
+ * how long the text is */
+static void take_text(uint8_t *buffer, size_t room, size_t *needed, const char *text,
+                      const char *what) {
+    size_t count = strlen(text), written = count <= room ? count : 0;
+    expect(*needed == count, what, (long)*needed);
+    expect(!memcmp(buffer, text, written) && is_marked(buffer + written, room - written), what,
+           -1);
+    expect(guards_stand(buffer, room) && guards_stand(needed, sizeof *needed), what, -3);
+    let_go(buffer);
+    let_go(needed);
+}
+
 /* opens bytes with so much room for the line */
 static uint32_t open_with(bearoff_file *database, const uint8_t *bytes, size_t length, size_t room,
                           const char *line, const char *what) {
     uint8_t *buffer = guarded(room);
     size_t *needed = (size_t *)guarded(sizeof *needed);
     uint32_t status = bearoff_open(database, bytes, length, buffer, room, needed);
-    size_t count = strlen(line);
-    expect(*needed == count, what, (long)*needed);
-    if (count <= room) {
-        expect(!memcmp(buffer, line, count) && is_marked(buffer + count, room - count), what, -1);
-    } else {
-        expect(is_marked(buffer, room), what, -2);
-    }
-    expect(guards_stand(buffer, room) && guards_stand(needed, sizeof *needed), what, -3);
     expect(guards_stand(database, sizeof *database), what, -4);
-    let_go(buffer);
-    let_go(needed);
+    take_text(buffer, room, needed, line, what);
     return status;
 }
 
@@ -241,43 +215,25 @@ static uint32_t answer_with(const bearoff_file *database, const char *line, size
     size_t *needed = (size_t *)guarded(sizeof *needed);
     uint32_t status =
         bearoff_answer_line(database, (const uint8_t *)line, strlen(line), buffer, room, needed);
-    size_t count = reply ? strlen(reply) : 0;
-    if (!reply) {
-        expect(untouched(buffer, room) && untouched(needed, sizeof *needed), what, (long)room);
+    if (reply) {
+        expect(status == (strlen(reply) <= room ? BEAROFF_OK : BEAROFF_SHORT), what, status);
+        take_text(buffer, room, needed, reply, what);
     } else {
-        expect(*needed == count && status == (count <= room ? BEAROFF_OK : BEAROFF_SHORT), what,
-               (long)*needed);
-        if (count <= room) {
-            expect(!memcmp(buffer, reply, count) && is_marked(buffer + count, room - count), what,
-                   -1);
-        } else {
-            expect(is_marked(buffer, room), what, -2);
-        }
+        expect(untouched(buffer, room) && untouched(needed, sizeof *needed), what, (long)room);
+        let_go(buffer);
+        let_go(needed);
     }
-    expect(guards_stand(buffer, room) && guards_stand(needed, sizeof *needed), what, -3);
-    let_go(buffer);
-    let_go(needed);
     return status;
 }
 
 /* the text of a status, with each room up to the most */
 static void say(uint32_t status, const char *wanted) {
-    size_t count = strlen(wanted);
     for (size_t room = 0; room <= BEAROFF_STATUS_TEXT; room++) {
         uint8_t *buffer = guarded(room);
         size_t *needed = (size_t *)guarded(sizeof *needed);
         uint32_t told = bearoff_status_text(status, buffer, room, needed);
-        expect(told == (count <= room ? BEAROFF_OK : BEAROFF_SHORT) && *needed == count, wanted,
-               (long)room);
-        if (count <= room) {
-            expect(!memcmp(buffer, wanted, count) && is_marked(buffer + count, room - count),
-                   wanted, -1);
-        } else {
-            expect(is_marked(buffer, room), wanted, -2);
-        }
-        expect(guards_stand(buffer, room) && guards_stand(needed, sizeof *needed), wanted, -3);
-        let_go(buffer);
-        let_go(needed);
+        expect(told == (strlen(wanted) <= room ? BEAROFF_OK : BEAROFF_SHORT), wanted, (long)room);
+        take_text(buffer, room, needed, wanted, wanted);
     }
 }
 
@@ -335,6 +291,14 @@ static void state(const char *text, size_t length, uint32_t wanted) {
     }
 }
 
+/* the same of each text of a list, with a bar between two */
+static void state_each(const char *texts, uint32_t wanted) {
+    for (size_t size = strcspn(texts, "|");; size = strcspn(texts += size + 1, "|")) {
+        state(texts, size, wanted);
+        if (!texts[size]) return;
+    }
+}
+
 typedef struct damage {
     size_t place;
     uint8_t change;
@@ -384,80 +348,22 @@ int main(int count, char **words) {
         {BEAROFF_BAD_SPREAD, "a share or count is not that of the recorded plays"},
         {28, "the bytes were changed while they were read"},
     };
-    static const uint32_t unknown[] = {12,
-                                       13,
-                                       14,
-                                       15,
-                                       29,
-                                       30,
-                                       31,
-                                       32,
-                                       255,
-                                       256,
-                                       257,
-                                       260,
-                                       267,
-                                       284,
-                                       512,
-                                       65536,
-                                       65538,
-                                       1u << 31,
-                                       (1u << 31) + 16,
-                                       ~(uint32_t)0};
-    static const struct {
-        uint32_t status;
-        const char *text;
-    } texts[] = {
-        {BEAROFF_OK, "0,0,0,0,0,0"},
-        {BEAROFF_OK, "0,0,0,2,0,1"},
-        {BEAROFF_OK, "15,0,0,0,0,0"},
-        {BEAROFF_OK, "0,0,0,0,0,15"},
-        {BEAROFF_OK, "1,2,3,4,5,0"},
-        {BEAROFF_TOO_MANY, "16,0,0,0,0,0"},
-        {BEAROFF_TOO_MANY, "0,0,0,0,0,16"},
-        {BEAROFF_TOO_MANY, "1,2,3,4,5,1"},
-        {BEAROFF_TOO_MANY, "255,0,0,0,0,0"},
-        {BEAROFF_TOO_MANY, "256,0,0,0,0,0"},   /* 0 in a byte */
-        {BEAROFF_TOO_MANY, "0,0,0,0,0,271"},   /* 15 in a byte */
-        {BEAROFF_TOO_MANY, "128,128,0,0,0,0"}, /* 256 in all */
-        {BEAROFF_TOO_MANY, "999,999,999,999,999,999"},
-        {BEAROFF_BAD_TEXT, ""},
-        {BEAROFF_BAD_TEXT, ","},
-        {BEAROFF_BAD_TEXT, ",,,,,"},
-        {BEAROFF_BAD_TEXT, "six"},
-        {BEAROFF_BAD_TEXT, "0,0,0,0,0"},
-        {BEAROFF_BAD_TEXT, "0,0,0,0,0,"},
-        {BEAROFF_BAD_TEXT, ",0,0,0,0,0"},
-        {BEAROFF_BAD_TEXT, "0,0,,0,0,0"},
-        {BEAROFF_BAD_TEXT, "0,0,0,0,0,0,"},
-        {BEAROFF_BAD_TEXT, "0,0,0,0,0,0,0"},
-        {BEAROFF_BAD_TEXT, "00,0,0,0,0,0"},
-        {BEAROFF_BAD_TEXT, "0,0,0,0,0,01"},
-        {BEAROFF_BAD_TEXT, "0,0,0,0,0,015"},
-        {BEAROFF_BAD_TEXT, "1000,0,0,0,0,0"},
-        {BEAROFF_BAD_TEXT, "65536,0,0,0,0,0"},
-        {BEAROFF_BAD_TEXT, "0,0,0,0,0,4294967296"},
-        {BEAROFF_BAD_TEXT, " 0,0,0,0,0,1"},
-        {BEAROFF_BAD_TEXT, "0,0,0,0,0,1 "},
-        {BEAROFF_BAD_TEXT, "0, 0,0,0,0,1"},
-        {BEAROFF_BAD_TEXT, "0,0,0,0,0,1\r"},
-        {BEAROFF_BAD_TEXT, "0,0,0,0,0,1\n"},
-        {BEAROFF_BAD_TEXT, "+0,0,0,0,0,1"},
-        {BEAROFF_BAD_TEXT, "0,0,0,0,0,-1"},
-        {BEAROFF_BAD_TEXT, "0,0,0,0,0,0x1"},
-        {BEAROFF_BAD_TEXT, "0;0;0;0;0;1"},
-        {BEAROFF_BAD_TEXT, "0,0,0,0,0,\xd9\xa1"}, /* a digit of Arabic */
-        {BEAROFF_BAD_TEXT,
-         "\xef\xbb\xbf"
-         "0,0,0,0,0,1"}, /* behind a byte order mark */
-    };
+    static const uint32_t unknown[] = {
+        12,  13,  14,  15,  29,  30,    31,    32,          255,         256,
+        257, 260, 267, 284, 512, 65536, 65538, 0x80000000u, 0x80000010u, 0xFFFFFFFFu};
     bearoff_position none = {{0, 0, 0, 0, 0, 0}}, six = {{0, 0, 0, 0, 0, 1}},
                      five = {{0, 0, 0, 0, 1, 0}};
     bearoff_position many = {{1, 15, 0, 0, 0, 0}}, most = {{255, 255, 255, 255, 255, 255}},
                      nine = {{0, 0, 1, 0, 0, 1}};
     bearoff_position ace = {{1, 0, 0, 0, 0, 0}}, fours = {{0, 0, 0, 2, 0, 0}},
                      after_21 = {{1, 0, 0, 1, 0, 0}};
-    statuses closed = {BEAROFF_NOT_OPEN, BEAROFF_NOT_OPEN, BEAROFF_NOT_OPEN};
+    statuses closed = {BEAROFF_NOT_OPEN, BEAROFF_NOT_OPEN, BEAROFF_NOT_OPEN},
+             not_legal = {BEAROFF_OK, BEAROFF_OK, BEAROFF_NOT_LEGAL},
+             to_many = {BEAROFF_OK, BEAROFF_OK, BEAROFF_TOO_MANY},
+             bad_roll = {BEAROFF_OK, BEAROFF_BAD_ROLL, BEAROFF_BAD_ROLL},
+             finished = {BEAROFF_OK, BEAROFF_FINISHED, BEAROFF_FINISHED},
+             of_many = {BEAROFF_TOO_MANY, BEAROFF_TOO_MANY, BEAROFF_TOO_MANY},
+             over_bound = {BEAROFF_OVER_BOUND, BEAROFF_OVER_BOUND, BEAROFF_OVER_BOUND};
     FILE *from = count == 2 ? fopen(words[1], "rb") : 0;
     if (!from) return 2;
     uint8_t *bytes = (uint8_t *)malloc(32 + 426 * 64);
@@ -508,24 +414,15 @@ int main(int count, char **words) {
     expect(bearoff_about(database, &about) == BEAROFF_OK && about.version == 1 &&
                about.bound == 8 && about.rolls == 22 && about.positions == 64,
            "about", about.version);
-    ask(database, six, 2, 1, ace, statuses_of(BEAROFF_OK, BEAROFF_OK, BEAROFF_NOT_LEGAL),
-        "not legal");
-    ask(database, six, 0, 1, ace, statuses_of(BEAROFF_OK, BEAROFF_BAD_ROLL, BEAROFF_BAD_ROLL),
-        "die 0");
-    ask(database, six, 1, 7, ace, statuses_of(BEAROFF_OK, BEAROFF_BAD_ROLL, BEAROFF_BAD_ROLL),
-        "die 7");
-    ask(database, six, 255, 255, ace, statuses_of(BEAROFF_OK, BEAROFF_BAD_ROLL, BEAROFF_BAD_ROLL),
-        "dice 255");
-    ask(database, none, 2, 1, none, statuses_of(BEAROFF_OK, BEAROFF_FINISHED, BEAROFF_FINISHED),
-        "finished");
-    ask(database, many, 2, 1, none,
-        statuses_of(BEAROFF_TOO_MANY, BEAROFF_TOO_MANY, BEAROFF_TOO_MANY), "16 checkers");
-    ask(database, most, 2, 1, none,
-        statuses_of(BEAROFF_TOO_MANY, BEAROFF_TOO_MANY, BEAROFF_TOO_MANY), "1530 checkers");
-    ask(database, nine, 2, 1, none,
-        statuses_of(BEAROFF_OVER_BOUND, BEAROFF_OVER_BOUND, BEAROFF_OVER_BOUND), "9 pips");
-    ask(database, six, 2, 1, many, statuses_of(BEAROFF_OK, BEAROFF_OK, BEAROFF_TOO_MANY),
-        "to 16 checkers");
+    ask(database, six, 2, 1, ace, not_legal, "not legal");
+    ask(database, six, 0, 1, ace, bad_roll, "die 0");
+    ask(database, six, 1, 7, ace, bad_roll, "die 7");
+    ask(database, six, 255, 255, ace, bad_roll, "dice 255");
+    ask(database, none, 2, 1, none, finished, "finished");
+    ask(database, many, 2, 1, none, of_many, "16 checkers");
+    ask(database, most, 2, 1, none, of_many, "1530 checkers");
+    ask(database, nine, 2, 1, none, over_bound, "9 pips");
+    ask(database, six, 2, 1, many, to_many, "to 16 checkers");
 
     /* lists: to the last of the 64 positions, and never beyond it */
     list(database, 0, 64, BEAROFF_OK, "all");
@@ -561,10 +458,22 @@ int main(int count, char **words) {
         say(unknown[i], "unknown status");
 
     /* texts of positions, and one with a zero behind it */
-    for (size_t i = 0; i < sizeof texts / sizeof *texts; i++) {
-        state(texts[i].text, strlen(texts[i].text), texts[i].status);
-    }
+    state_each("0,0,0,0,0,0|0,0,0,2,0,1|15,0,0,0,0,0|0,0,0,0,0,15|1,2,3,4,5,0", BEAROFF_OK);
+    /* 256 is 0 in a byte, 271 is 15 there, and 128 twice is 256 in all */
+    state_each(
+        "16,0,0,0,0,0|0,0,0,0,0,16|1,2,3,4,5,1|255,0,0,0,0,0|256,0,0,0,0,0|0,0,0,0,0,271|"
+        "128,128,0,0,0,0|999,999,999,999,999,999",
+        BEAROFF_TOO_MANY);
+    /* the last has a digit of Arabic */
+    state_each(
+        "|,|,,,,,|six|0,0,0,0,0|0,0,0,0,0,|,0,0,0,0,0|0,0,,0,0,0|0,0,0,0,0,0,|0,0,0,0,0,0,0|"
+        "00,0,0,0,0,0|0,0,0,0,0,01|0,0,0,0,0,015|1000,0,0,0,0,0|65536,0,0,0,0,0|"
+        "0,0,0,0,0,4294967296| 0,0,0,0,0,1|0,0,0,0,0,1 |0, 0,0,0,0,1|0,0,0,0,0,1\r|"
+        "0,0,0,0,0,1\012|+0,0,0,0,0,1|0,0,0,0,0,-1|0,0,0,0,0,0x1|0;0;0;0;0;1|0,0,0,0,0,\xd9\xa1",
+        BEAROFF_BAD_TEXT);
     state("0,0,0,0,0,1", 12, BEAROFF_BAD_TEXT);
+    /* behind a byte order mark */
+    state("\xef\xbb\xbf\060,0,0,0,0,1", 14, BEAROFF_BAD_TEXT);
 
     try_thousandths();
 
