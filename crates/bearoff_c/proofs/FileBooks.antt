@@ -1,5 +1,5 @@
 -- What is known of an open file of any version, and the book that it says.
-use Rattle.std.proofs.Common.{◌≡◌, ◌<◌, ◌≤◌, ◌^◌, ℕ, List, refl, sym, ap, arith, eq-eqb, ne_eqb}
+use Rattle.std.proofs.Common.{◌≡◌, ◌<◌, ◌≤◌, ◌^◌, ℕ, List, refl, sym, ap, ◌∙◌, arith, eq-eqb, ne_eqb}
 use mathlib.Core.Logic.{∥∥₁_map}
 use Rattle.race_model.specs.Versions.{Version, full, compact, version_number}
 use Rattle.race_model.specs.Books.{IsRightBook}
@@ -13,7 +13,7 @@ use Rattle.race_model.proofs.RightFiles.Right.{short}
 use Rattle.db_layout.specs.declared.stated.Kind.{Kind}
 use Rattle.db_layout.specs.declared.stated.Kind.TheVariants.{Database, Board}
 use Rattle.epc_query.specs.Kinds.{book_as, IsRightAs}
-use Rattle.bearoff_c.specs.FileBooks.{file_book, version_in}
+use Rattle.bearoff_c.specs.FileBooks.{book_by, file_book, version_in}
 use Rattle.bearoff_c.proofs.KnownRight.{right_known}
 use Rattle.bearoff_c.proofs.OpenedBoards.{file_known}
 
@@ -28,6 +28,12 @@ pub board_file_book : (f : List ℕ) → version_in f ≡ 3 → board_book f ≡
 unfolding kind_of
 board_file_book f is =
     sym (ap (λ b. (kind_by b (version_of f)).book f) (eq-eqb (version_in f) 3 is))
+
+-- what an opened file says, by its kind and its bytes
+pub opened_book : (inside opened : Kind × List ℕ) (kind : Kind) → inside ≡ opened →
+    opened.0 ≡ kind → book_by opened ≡ book_as kind inside.1
+opened_book inside opened kind view is = sym (ap book_by view)
+    ∙ ap (λ kind. book_as kind inside.1) (ap (λ (it : Kind × List ℕ). it.0) view ∙ is)
 
 -- what a right file of a kind says is a right book
 pub right_book : (kind : Kind) (f : List ℕ) → IsRightAs kind f → IsRightBook (book_as kind f)

@@ -1,8 +1,8 @@
 use Rattle.std.proofs.Common.{ℕ, List, ap, subst, sym, ◌∙◌}
 use Rattle.race_model.specs.BoardFiles.{board_book}
 use Rattle.db_layout.specs.declared.stated.Kind.{Kind}
-use Rattle.epc_query.specs.Kinds.{book_as, IsRightAs}
-use Rattle.bearoff_c.specs.FileBooks.{book_by}
+use Rattle.epc_query.specs.Kinds.{IsRightAs}
+use Rattle.bearoff_c.proofs.FileBooks.{opened_book}
 use Rattle.bearoff_c.proofs.opened.OpenedFile.board.Goals as goal
 
 pub kept-requires-clause-right : goal.kept-requires-clause-right
@@ -13,7 +13,4 @@ kept-requires-clause-right c =
 
 pub returns : goal.returns
 returns c =
-    sym (ap book_by c.self.view_is)
-    ∙ ap (λ kind. book_as kind c.self.inside.bytes.now)
-    (ap (λ (opened : Kind × List ℕ). opened.0) c.self.view_is ∙ c.requires)
-    ∙ ap board_book (sym c.kept.ensures)
+    opened_book _ _ _ c.self.view_is c.requires ∙ ap board_book (sym c.kept.ensures)
