@@ -57,6 +57,13 @@ const READY = 'document.body.dataset.ready && document.querySelector("#numbers .
 const HOME = 'document.body.dataset.ready && document.querySelector(\'[data-key="lesson 1"]\')';
 const KNOWN = '!document.querySelector(".figures").textContent.includes("\\u2026")';
 
+// A page at an address of the board, once the numbers of its position are there.
+async function known(browser, hash, how = {}) {
+    const page = await browser.open(address + hash, how);
+    await page.until(`${READY} && ${KNOWN}`);
+    return page;
+}
+
 // Keeps what the bar shows, each position with the numbers beside it, and what the page's policy refuses. Without
 // frames, as where a browser draws none, nothing is kept of the bar.
 const WATCH = `window.watched = { ready: 0, bar: [], pairs: [], refused: [] };
@@ -288,8 +295,7 @@ async function driveKeyboard(browser) {
 
 // An XGID and an ID of GNU Backgammon in the field, with their roll; and one that is no bearoff race, in words.
 async function drivePasted(browser) {
-    const page = await browser.open(`${address}#at=1,0,0,0,0,0`);
-    await page.until(`${READY} && ${KNOWN}`);
+    const page = await known(browser, "#at=1,0,0,0,0,0");
     const told = JSON.parse(readFileSync(new URL("../callers/notation_texts.json", import.meta.url), "utf8"));
     const dice = told.read.filter(([text, points, , roll]) => roll && pipsOf(points.join()) > 0
         && pipsOf(points.join()) <= 44 && /^(XGID|Position|GNU|[A-Za-z0-9+/]{14}:)/.test(text));
@@ -556,27 +562,22 @@ async function driveFiles(page) {
 async function driveMoments(browser) {
     const race = readFileSync(join(folder, "race.db"));
     race[race.length - 1] ^= 1;
-    const page = await browser.open(`${address}#p=2,2,2,2,2,2`, { before: SLOW + WATCH });
-    await page.until(`${READY} && ${KNOWN}`);
+    const page = await known(browser, "#p=2,2,2,2,2,2", { before: SLOW + WATCH });
     await put(page, race);
     // in the turn in which the bar is seen, since the check may be over before the next one
-    equal("a board that changes while a file is checked", await page.value(`new Promise((keep) => {
-        const look = () => {
-            if (document.getElementById("bar").hidden) return setTimeout(look, 1);
-            for (const key of ["Remove 6", "", "Remove 5", "Remove 5"]) {
-                document.querySelector(key ? '[data-key="' + key + '"]' : "#keep").click();
-            }
-            return keep({ board: ${SHOWN}.values, bar: document.getElementById("bar").hidden });
-        };
-        look();
+    equal("a board that changes while a file is checked", await page.value(`new Promise(function look(keep) {
+        if (document.getElementById("bar").hidden) return setTimeout(look, 1, keep);
+        for (const key of ["Remove 6", "", "Remove 5", "Remove 5"]) {
+            document.querySelector(key ? '[data-key="' + key + '"]' : "#keep").click();
+        }
+        keep({ board: ${SHOWN}.values, bar: document.getElementById("bar").hidden });
     })`), { board: "2,2,2,2,0,1", bar: false });
     await page.until('!document.getElementById("trouble").hidden');
     await compare(page, "after the refusal", "2,2,2,2,0,1");
     await page.known(".kept td[data-head]");
     await compareWatched(page, "while a file is checked", 3);
 
-    const wider = await browser.open(`${address}#at=2,2,2,2,2,2`, { before: machine(60000, { late: 300 }) + WATCH });
-    await wider.until(`${READY} && ${KNOWN}`);
+    const wider = await known(browser, "#at=2,2,2,2,2,2", { before: machine(60000, { late: 300 }) + WATCH });
     await wider.value('location.hash = "#at=0,0,0,3,5,3"');
     await wider.until("workers.length === 2");
     await wider.value(`(async () => {
@@ -619,8 +620,7 @@ async function driveLesson(browser) {
 }
 
 async function driveHistory(browser) {
-    const page = await browser.open(`${address}#at=1,0,0,0,0,0`);
-    await page.until(`${READY} && ${KNOWN}`);
+    const page = await known(browser, "#at=1,0,0,0,0,0");
     await page.until('location.hash === "#at=1,0,0,0,0,0"');
     for (const selector of [keyed("Add 4"), "#keep", keyed("roll 21")]) {
         await page.poke(selector);
@@ -643,8 +643,7 @@ async function driveHistory(browser) {
 }
 
 async function driveCopy(browser) {
-    const page = await browser.open(`${address}#at=1,0,0,0,0,0`);
-    await page.until(`${READY} && ${KNOWN}`);
+    const page = await known(browser, "#at=1,0,0,0,0,0");
     await page.click(keyed("Add 4"));
     await page.click("#copy");
     await page.until('document.getElementById("copied").textContent');
@@ -1358,8 +1357,7 @@ async function driveFinger(browser) {
             await page.close();
         }
     }
-    const page = await browser.open(`${address}#at=0,0,0,4,4,1`, { width: 360, height: 780, mobile: true });
-    await page.until(`${READY} && ${KNOWN}`);
+    const page = await known(browser, "#at=0,0,0,4,4,1", { width: 360, height: 780, mobile: true });
     await page.swipe("#board .number:last-of-type", "h1");
     await wait(300);
     equal("a finger scrolls from the free board", await page.value("scrollY > 20"), true);
@@ -1701,8 +1699,7 @@ async function takePictures(browser) {
 const OWN = {
     times: async (browser) => driveTimes(await driveBoard(browser)),
     files: async (browser) => {
-        const page = await browser.open(`${address}#at=0,0,0,4,4,1`, { before: SLOW });
-        await page.until(`${READY} && ${KNOWN}`);
+        const page = await known(browser, "#at=0,0,0,4,4,1", { before: SLOW });
         await driveGuess(page);
         await driveFiles(page);
     },
