@@ -41,9 +41,9 @@ pips 2 positions 2 least 1/1 greatest 1/1
 pips 3 positions 3 least 1/1 greatest 11/6"""
 TYPED_HELP = (
     "Lines: mean, dist or rank and a position; play or moves, a position and a roll; loss, a\n"
-    "position, a roll and a position. A position is six counts, that of the ace point first:\n"
-    "mean 0,0,0,0,0,1. A roll is two digits: play 0,0,0,2,0,0 21. An empty line or help shows this,\n"
-    "and quit or Ctrl-D ends the input.\n"
+    "position, a roll and a position. A position is six counts, that of the ace point first, of\n"
+    "at most 8 pips where no file is named: mean 0,0,0,0,0,1. A roll is two digits:\n"
+    "play 0,0,0,2,0,0 21. An empty line or help shows this, and quit or Ctrl-D ends the input.\n"
 )
 BUILD_USAGE = "Usage: bearoff build --pips <N> <FILE>\n       bearoff build --board <FILE>"
 READERS = ("check", "query", "query --cache 1", "audit")

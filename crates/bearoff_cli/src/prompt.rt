@@ -11,9 +11,9 @@ const PROMPT: &str = "> ";
 
 const HELP: &str =
     "Lines: mean, dist or rank and a position; play or moves, a position and a roll; loss, a
-position, a roll and a position. A position is six counts, that of the ace point first:
-mean 0,0,0,0,0,1. A roll is two digits: play 0,0,0,2,0,0 21. An empty line or help shows this,
-and quit or Ctrl-D ends the input.
+position, a roll and a position. A position is six counts, that of the ace point first, of
+at most 8 pips where no file is named: mean 0,0,0,0,0,1. A roll is two digits:
+play 0,0,0,2,0,0 21. An empty line or help shows this, and quit or Ctrl-D ends the input.
 ";
 
 /// How many helps there are at most before one line.
