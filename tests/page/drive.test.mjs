@@ -921,8 +921,7 @@ async function driveSession(browser) {
                 "count .plays .cost": 0, "count #board [role=button]": 7, "count .bar-of span": 10 });
             await act(page, '.plays [tabindex="0"]', /^[1-6]\/\S/);
             await page.known("#coach .verdict");
-            const [verdict] = await page.look(["#coach .verdict"]);
-            const isRight = / is best/.test(verdict);
+            const isRight = / is best/.test((await page.look(["#coach .verdict"]))[0]);
             if (asked < 10 && !isRight) missed += 1;
             await sees(page, `${way}: the verdict of ${which}`, { focus: "next question",
                 "count #board figure": isRight ? 0 : 2, "#steering": /(Next|Score)$/ });
@@ -930,8 +929,10 @@ async function driveSession(browser) {
         }
         equal(`${way}: ten, and what was missed once more`, asked, 10 + missed);
         await page.known("#review");
+        if (missed > 0) await page.there(".reviewed .why > *");
+        const [throws] = await page.look(["count .reviewed .why > p"]); // none where the last checker is off
         await sees(page, `${way}: the review`, { "count .reviewed > li": 10, "count .reviewed > .lost": missed,
-            "count .reviewed .compared": missed > 0 ? 2 : 0, ".score": /^10 of 10 were played\./ });
+            "count .reviewed .compared": missed > 0 ? 1 + throws : 0, ".score": /^10 of 10 were played\./ });
         const heard = await page.value("window.heard");
         equal(`${way}: what is heard`, [
             heard.filter((text) => /^(Question|Once more).* Which play of \d-\d is best\? The board: /.test(text)).length,
