@@ -1,8 +1,8 @@
 -- What is listed by rank, item after item.
-use Rattle.std.proofs.Common.{◌≡◌, ℕ, ◌+◌, ◌<◌, ◌≤◌, ◌⊎◌, inl, inr, List, length, get_or, set, sym, ap}
-use Rattle.std.proofs.Common.{subst, ◌∙◌, arith}
+use Rattle.std.proofs.Common.{◌≡◌, ℕ, ◌+◌, ◌<◌, ◌≤◌, ◌⊎◌, inl, inr, List, length, get_or, set, sym, ap, subst, ◌∙◌}
+use Rattle.std.proofs.Common.{arith, drop}
 use Rattle.std.proofs.lemmas.Bool.{cases_lt}
-use Rattle.std.proofs.lemmas.List.{get_or-set_other}
+use Rattle.std.proofs.lemmas.List.{get_or-set_other, drop_more}
 use Rattle.std.proofs.lemmas.Grind.{get_or-set_at}
 use Rattle.race_model.specs.Positions.{Board, IsPosition, pips}
 use Rattle.race_model.specs.Ranks.{rank, count_to}
@@ -34,3 +34,9 @@ pub ranked_within : (bound first n i : ℕ) (x : Board) → IsPosition x → ran
     → first + n ≤ count_to bound → pips x ≤ bound
 ranked_within bound first n i x at ranked under within =
     (rank_bound x bound at).0 (omega (arith, ranked, under, within))
+
+-- the rest of a list doesn't change where one of its front is written
+pub rest_stays : {X : Type 0} (xs ys : List X) (i : _) (x d : X) → i < length xs → i < length ys →
+    drop i xs ≡ drop i ys → drop (i + 1) xs ≡ drop (i + 1) ys
+rest_stays xs ys i x d low less e =
+    ap (drop 1) (sym (drop_more xs i d low) ∙ e ∙ drop_more ys i d less)

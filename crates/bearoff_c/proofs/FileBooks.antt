@@ -14,8 +14,7 @@ use Rattle.db_layout.specs.declared.stated.Kind.{Kind}
 use Rattle.db_layout.specs.declared.stated.Kind.TheVariants.{Database, Board}
 use Rattle.epc_query.specs.Kinds.{book_as, IsRightAs}
 use Rattle.bearoff_c.specs.FileBooks.{book_by, file_book, version_in}
-use Rattle.bearoff_c.proofs.KnownRight.{right_known}
-use Rattle.bearoff_c.proofs.OpenedBoards.{file_known}
+use Rattle.bearoff_c.proofs.KnownRight.{right_known, file_known}
 
 -- a file whose header doesn't state the version 3 says what it does as a database
 pub database_book : (f : List ℕ) → ¬ (version_in f ≡ 3) → book_of f ≡ file_book f

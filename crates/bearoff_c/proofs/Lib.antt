@@ -1,9 +1,6 @@
 pub mod AddedShares
 pub mod ByRank
 pub mod FileBooks
-pub mod Fronts
 pub mod KnownRight
-pub mod OpenedBoards
 pub mod Records
-pub mod Refusing
 pub mod FaultStatuses

@@ -1,5 +1,5 @@
--- Every result of a roll with what it costs by a book, as C has them.
-use Rattle.std.specs.Prelude.{◌≡◌, ◌⊎◌, ℕ, ◌≤◌, List, length, map, All, take, drop}
+-- The moves of a play, and the results of a roll, as C has them.
+use Rattle.std.specs.Prelude.{◌≡◌, ◌⊎◌, ℕ, ◌≤◌, List, length, map, All, take, drop, slice_index_or}
 use Rattle.race_model.specs.Positions.{Board}
 use Rattle.race_model.specs.Dice.{Throw}
 use Rattle.race_model.specs.Fractions.{IsFraction}
@@ -7,6 +7,8 @@ use Rattle.race_model.specs.Books.{Book, whole_in}
 use Rattle.race_model.specs.Losses.{loss_in, IsMoveListIn}
 use Rattle.bearoff_c.specs.declared.choices.Choice.{Choice}
 use Rattle.bearoff_c.specs.Longs.{long_number_of}
+use Rattle.bearoff_c.specs.declared.plays.Move.{Move}
+use Rattle.bearoff_c.specs.declared.plays.RecordedPlay.{RecordedPlay}
 
 -- the positions of results
 abbrev pub places_of : List Choice → List Board
@@ -40,3 +42,15 @@ pub record TellsMoves (b : Book) (x : Board) (v : Throw) (old new : List Choice)
   pub told : status ≡ 8 → IsChoiceCount b x v count
   pub most : (status ≡ 0) ⊎ (status ≡ 8) → count ≤ 127
   pub left : ¬ (status ≡ 0) → new ≡ old
+
+-- the moves, each by its two points: as many as are counted
+abbrev pub moves_in : RecordedPlay → List (ℕ × ℕ)
+moves_in play = map (λ m. (m.from, m.to)) (take play.count play.moves)
+
+-- the zeros that stand where there is no move
+abbrev pub no_move : Move
+no_move = record { from = 0; to = 0 }
+
+-- after the first n moves there is none
+abbrev pub AreZerosAfter : ℕ → List Move → Type 0
+AreZerosAfter n moves = (i : ℕ) → n ≤ i → slice_index_or moves i no_move ≡ no_move

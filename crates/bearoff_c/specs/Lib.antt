@@ -1,9 +1,5 @@
 pub mod Refusals
 pub mod StatusTexts
-pub mod Buffers
-pub mod FileFaults
-pub mod PlayLists
-pub mod Listed
 pub mod Longs
 pub mod ChoiceLists
 pub mod FileBooks

@@ -1,5 +1,5 @@
--- The text of each status.
-use Rattle.std.specs.Prelude.{ℕ, ◌==◌, if◌then◌else◌, List, codes}
+-- Texts in buffers that a caller lends, and that of each status.
+use Rattle.std.specs.Prelude.{ℕ, ◌==◌, if◌then◌else◌, List, codes, ◌≡◌, ◌<◌, ◌≤◌, ◌++◌, length, drop}
 
 -- what a status says, in the words of the header; a number that is none of them is told so
 abbrev pub status_text : ℕ → List ℕ
@@ -30,3 +30,10 @@ status_text n =
     else if n == 27 then codes "a share or count is not that of the recorded plays"
     else if n == 28 then codes "the bytes were changed while they were read"
     else codes "unknown status"
+
+-- a buffer has a text in front where all of it has room, and its length was told; the rest of the
+-- buffer, or all of it where there is no room, stays as it was
+pub record HasText (text old new : List ℕ) (told : ℕ) : Type 0 where
+  pub told_is : told ≡ length text
+  pub written : length text ≤ length old → new ≡ text ++ drop (length text) old
+  pub short : length old < length text → new ≡ old

@@ -1,6 +1,6 @@
 -- What the calls tell by a book, as C has it.
-use Rattle.std.specs.Prelude.{◌≡◌, ℕ, ◌*◌, ◌<◌, ◌≤◌, map, slice_index}
-use Rattle.race_model.specs.Positions.{Board}
+use Rattle.std.specs.Prelude.{◌≡◌, ℕ, ◌*◌, ◌<◌, ◌≤◌, map, slice_index, ◌+◌, List, length, slice_index_or}
+use Rattle.race_model.specs.Positions.{Board, IsPosition}
 use Rattle.race_model.specs.Dice.{Throw}
 use Rattle.race_model.specs.Plays.{Legal}
 use Rattle.race_model.specs.FirstPlays.{IsFirstPlay}
@@ -16,7 +16,8 @@ use Rattle.bearoff_c.specs.declared.distributions.Chance.{Chance}
 use Rattle.bearoff_c.specs.declared.plays.RecordedPlay.{RecordedPlay}
 use Rattle.bearoff_c.specs.FileBooks.{rolls_in, chance_in}
 use Rattle.bearoff_c.specs.Longs.{long_number_of}
-use Rattle.bearoff_c.specs.PlayLists.{moves_in, AreZerosAfter}
+use Rattle.bearoff_c.specs.ChoiceLists.{moves_in, AreZerosAfter}
+use Rattle.race_model.specs.Ranks.{rank}
 
 -- the mean number of rolls, which is the least over all strategies
 pub record SaysMean (b : Book) (x : Board) (mean : Long) : Type 0 where
@@ -71,3 +72,10 @@ pub record SaysLoss (b : Book) (x : Board) (v : Throw) (y : Board) (loss : LongF
     pub recorded : IsFraction (loss_in b x v y) (whole_in b)
         (long_number_of loss.numerator) (long_number_of loss.denominator)
     pub lost : IsLossIn (rolls_in b) x v y (loss_in b x v y)
+
+-- each item of a list says so of its position: that whose rank is its place in the list, from the
+-- rank of the first on
+abbrev pub SaysByRank : {T : Type 0} → ℕ → List T → (Board → T → Type 0) → Type 0
+SaysByRank first items Says =
+    (x : Board) (i : ℕ) (d : _) → IsPosition x → rank x ≡ first + i → i < length items
+    → Says x (slice_index_or items i d)

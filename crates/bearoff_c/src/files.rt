@@ -12,7 +12,7 @@ ghost use Rattle.db_layout.specs.Records.{IsVersion};
 ghost use Rattle.retrograde.specs.BuiltBoards.{IsBuiltBoard};
 ghost use Rattle.certificate.specs.declared.check_fault.CheckFault.{CheckFault as Fault};
 ghost use Rattle.certificate.specs.CheckFaults.{IsFirst};
-ghost use Rattle.bearoff_c.specs.FileFaults.{fault_status as status_of_fault};
+ghost use Rattle.bearoff_c.specs.Opening.{fault_status as status_of_fault};
 
 use crate::statuses::{OK, Refusal, SHORT, fault_status};
 use certificate::{UpgradeFault, check};

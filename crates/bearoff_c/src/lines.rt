@@ -3,7 +3,7 @@
 ghost use Rattle.std.specs.Prelude.{◌≡◌, ℕ, ◌≤◌, ◌<◌, ◌↔◌, List, [], ◌∷◌, ◌++◌, IsTrue, length};
 ghost use Rattle.race_model.specs.Replies.{IsReplyIn};
 ghost use Rattle.bearoff_c.specs.FileBooks.{file_book, book_by};
-ghost use Rattle.bearoff_c.specs.Buffers.{HasText};
+ghost use Rattle.bearoff_c.specs.StatusTexts.{HasText};
 ghost use Rattle.bearoff_c.specs.Refusals.{open_refusal, status_of};
 
 use crate::kept::File;

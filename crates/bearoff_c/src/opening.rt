@@ -6,9 +6,9 @@ ghost use Rattle.race_model.specs.RightFiles.{IsRight};
 ghost use Rattle.certificate.specs.declared.check_fault.CheckFault.{CheckFault as Fault};
 ghost use Rattle.certificate.specs.CheckFaults.{line_of};
 ghost use Rattle.bearoff_c.specs.FileBooks.{file_book, rolls_in, version_in, IsOpenedFile};
-ghost use Rattle.bearoff_c.specs.FileFaults.{fault_status as status_of_fault};
+ghost use Rattle.bearoff_c.specs.Opening.{fault_status as status_of_fault};
 ghost use Rattle.bearoff_c.specs.Opening.{IsFirstOfFile, IsElseSameFile};
-ghost use Rattle.bearoff_c.specs.Buffers.{HasText};
+ghost use Rattle.bearoff_c.specs.StatusTexts.{HasText};
 ghost use Rattle.bearoff_c.specs.Refusals.{open_refusal, status_of};
 
 use crate::kept::File;

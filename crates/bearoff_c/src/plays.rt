@@ -3,7 +3,7 @@ ghost use Rattle.std.specs.Prelude.{◌≡◌, ◌<◌, ◌≤◌, IfOk, map, ta
 ghost use Rattle.race_model.specs.Plays.{Legal};
 ghost use Rattle.legal_plays.specs.Faces.{face, roll_of};
 ghost use Rattle.legal_plays.specs.MoveLists.{moves_of};
-ghost use Rattle.bearoff_c.specs.PlayLists.{AreZerosAfter};
+ghost use Rattle.bearoff_c.specs.ChoiceLists.{AreZerosAfter};
 ghost use Rattle.bearoff_c.specs.Refusals.{IsStatusOr, lead_refusal, roll_refusal, refusal_in};
 ghost use Rattle.bearoff_c.specs.Told.{SaysPlayTo};
 

@@ -1,6 +1,6 @@
 //! What each status says, for a caller's own messages.
 ghost use Rattle.std.specs.Prelude.{◌≡◌, ◌<◌, ◌≤◌, ◌↔◌, length};
-ghost use Rattle.bearoff_c.specs.Buffers.{HasText};
+ghost use Rattle.bearoff_c.specs.StatusTexts.{HasText};
 ghost use Rattle.bearoff_c.specs.StatusTexts.{status_text};
 
 use crate::lines::put_text;

@@ -1,6 +1,6 @@
 //! Statuses: why a call gives no answer.
 ghost use Rattle.std.specs.Prelude.{◌≡◌, ◌<◌, Some};
-ghost use Rattle.bearoff_c.specs.FileFaults.{fault_status};
+ghost use Rattle.bearoff_c.specs.Opening.{fault_status};
 ghost use Rattle.bearoff_c.specs.Refusals.{status_of};
 
 use certificate::CheckFault;

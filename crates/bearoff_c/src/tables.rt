@@ -1,7 +1,7 @@
 //! Whole tables in one call: what a file of any version says of each position, from a rank on.
 ghost use Rattle.std.specs.Prelude.{◌≡◌, length};
 ghost use Rattle.bearoff_c.specs.FileBooks.{file_book};
-ghost use Rattle.bearoff_c.specs.Listed.{SaysByRank};
+ghost use Rattle.bearoff_c.specs.Told.{SaysByRank};
 ghost use Rattle.bearoff_c.specs.Refusals.{rank_refusal, status_of};
 ghost use Rattle.bearoff_c.specs.Told.{SaysMean, SaysEpc, SaysShares};
 

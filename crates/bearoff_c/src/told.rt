@@ -6,7 +6,7 @@ ghost use Rattle.race_model.specs.Ranks.{at_rank, count_to};
 ghost use Rattle.race_model.specs.Files.{bound_of, book_of};
 ghost use Rattle.race_model.specs.Books.{Book};
 ghost use Rattle.bearoff_c.specs.FileBooks.{book_by};
-ghost use Rattle.bearoff_c.specs.Listed.{SaysByRank};
+ghost use Rattle.bearoff_c.specs.Told.{SaysByRank};
 ghost use Rattle.bearoff_c.specs.Refusals.{position_refusal, rank_refusal, status_of};
 ghost use Rattle.bearoff_c.specs.Told.{SaysMean, SaysEpc, SaysShares};
 

@@ -2,7 +2,7 @@ use Rattle.std.proofs.Common.{ℕ, Bool, subst₂}
 use Rattle.race_model.specs.Plays.{Legal}
 use Rattle.legal_plays.specs.Faces.{face, roll_of}
 use Rattle.bearoff_c.specs.Refusals.{IsStatusOr, loss_refusal}
-use Rattle.bearoff_c.proofs.Refusing.{open_known}
+use Rattle.bearoff_c.proofs.FaultStatuses.{open_known}
 use Rattle.bearoff_c.proofs.choices.bearoff_loss.Goals as goal
 
 pub returns-in-Ok-clause-status : goal.returns-in-Ok-clause-status

@@ -1,5 +1,4 @@
-use Rattle.std.proofs.Common.{◌≡◌, ℕ, ◌+◌, ◌<◌, List, [], ◌∷◌, ◌++◌, All, length, map, take, ap}
-use Rattle.std.proofs.Common.{sym, subst, ◌∙◌, arith}
+use Rattle.std.proofs.Common.{◌≡◌, ℕ, ◌+◌, ◌<◌, List, [], ◌∷◌, ◌++◌, All, length, map, take, ap, sym, subst, ◌∙◌, arith}
 use Rattle.std.proofs.lemmas.List.{map-append, take_more, take_more_set, drop-set-lt}
 use Rattle.std.proofs.lemmas.List.Elements.{All-push}
 use Rattle.race_model.specs.Positions.{Board}
@@ -9,7 +8,7 @@ use Rattle.epc_query.specs.declared.choices.RankedChoice.{RankedChoice}
 use Rattle.bearoff_c.specs.declared.choices.Choice.{Choice}
 use Rattle.bearoff_c.specs.ChoiceLists.{places_of, HasCost}
 use Rattle.bearoff_c.specs.Longs.{long_number_of}
-use Rattle.bearoff_c.proofs.Fronts.{rest_stays}
+use Rattle.bearoff_c.proofs.ByRank.{rest_stays}
 use Rattle.bearoff_c.proofs.choices.tell_choices.Goals as goal
 
 pub loop-index-preserved : goal.loop-index-preserved

@@ -3,7 +3,7 @@ use Rattle.std.proofs.Common.{true, ap, sym, arith, rules}
 use Rattle.race_model.specs.Plays.{Legal}
 use Rattle.bearoff_c.specs.FileBooks.{book_by}
 use Rattle.bearoff_c.specs.Refusals.{status_of}
-use Rattle.bearoff_c.proofs.Refusing.{loss_told}
+use Rattle.bearoff_c.proofs.FaultStatuses.{loss_told}
 use Rattle.bearoff_c.proofs.choices.tell_loss.Goals as goal
 
 pub returns-then-is_none-clause-status : goal.returns-then-is_none-clause-status

@@ -1,6 +1,6 @@
 use Rattle.std.proofs.Common.{◌≡◌, length, map, take}
 use Rattle.legal_plays.specs.MoveLists.{moves_of}
-use Rattle.bearoff_c.specs.PlayLists.{AreZerosAfter}
+use Rattle.bearoff_c.specs.ChoiceLists.{AreZerosAfter}
 use Rattle.bearoff_c.proofs.plays.listed.Given as goal
 
 -- the moves so far, and zeros after them

@@ -1,7 +1,6 @@
 use Rattle.std.proofs.Common.{subst}
 use Rattle.race_model.specs.Books.{Book}
-use Rattle.bearoff_c.specs.Listed.{SaysByRank}
-use Rattle.bearoff_c.specs.Told.{SaysShares}
+use Rattle.bearoff_c.specs.Told.{SaysByRank, SaysShares}
 use Rattle.bearoff_c.proofs.tables.bearoff_listed_distributions.Goals as goal
 
 pub returns-in-Ok-clause-shares : goal.returns-in-Ok-clause-shares

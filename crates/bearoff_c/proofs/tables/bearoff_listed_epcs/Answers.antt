@@ -1,7 +1,6 @@
 use Rattle.std.proofs.Common.{subst}
 use Rattle.race_model.specs.Books.{Book}
-use Rattle.bearoff_c.specs.Listed.{SaysByRank}
-use Rattle.bearoff_c.specs.Told.{SaysEpc}
+use Rattle.bearoff_c.specs.Told.{SaysByRank, SaysEpc}
 use Rattle.bearoff_c.proofs.tables.bearoff_listed_epcs.Goals as goal
 
 pub returns-in-Ok-clause-pips : goal.returns-in-Ok-clause-pips

@@ -1,7 +1,6 @@
 use Rattle.std.proofs.Common.{subst}
 use Rattle.race_model.specs.Books.{Book}
-use Rattle.bearoff_c.specs.Listed.{SaysByRank}
-use Rattle.bearoff_c.specs.Told.{SaysMean}
+use Rattle.bearoff_c.specs.Told.{SaysByRank, SaysMean}
 use Rattle.bearoff_c.proofs.tables.bearoff_listed_means.Goals as goal
 
 pub returns-in-Ok-clause-means : goal.returns-in-Ok-clause-means

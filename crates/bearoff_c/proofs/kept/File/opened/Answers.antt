@@ -6,7 +6,7 @@ use Rattle.bearoff_c.specs.FileBooks.{book_by, version_in}
 use Rattle.bearoff_c.specs.declared.kept.File.{File}
 use Rattle.db_layout.specs.declared.stated.Kind.{Kind}
 use Rattle.bearoff_c.proofs.FileBooks.{database_book, board_file_book, database_version, right_database_known}
-use Rattle.bearoff_c.proofs.OpenedBoards.{right_board_known}
+use Rattle.bearoff_c.proofs.KnownRight.{right_board_known}
 use Rattle.bearoff_c.proofs.kept.File.opened.Goals as goal
 
 -- the bound that is kept of an open file is that of its bytes
