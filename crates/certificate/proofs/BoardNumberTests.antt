@@ -1,5 +1,5 @@
 -- The equations of the numbers of a position of a board file, by what stands in its record.
-use Rattle.std.proofs.Common.{◌≡◌, ◌↔◌, ⊎_elim, ℕ, zero, suc, ◌+◌, ◌-◌, ◌*◌, ◌^◌, ◌<◌, ◌≤◌, List}
+use Rattle.std.proofs.Common.{◌≡◌, ◌↔◌, ⊎_elim, ℕ, zero, suc, ◌+◌, ◌-◌, ◌*◌, ◌/◌, ◌%◌, ◌^◌, ◌<◌, ◌≤◌, List}
 use Rattle.std.proofs.Common.{sym, ap, subst, ◌∙◌, arith}
 use Rattle.std.proofs.lemmas.Bool.{cases_lt}
 use Rattle.race_model.specs.Positions.{Board, IsFinished, pips}
@@ -20,7 +20,7 @@ use Rattle.db_layout.specs.BoardRecords.{Stored}
 use Rattle.db_layout.specs.LowerRecords.{Lower, AreBelow, AreResults, board_mean}
 use Rattle.db_layout.proofs.KnownRecords.{meets-below, count-one}
 use Rattle.db_layout.proofs.KnownRecords.{told-at_end, told-at_once, told-beyond, told-within}
-use Rattle.certificate.specs.BoardTests.{IsBoardMeanOf, IsCountOf, IsTested, MeanHolds, CountHolds}
+use Rattle.certificate.specs.BoardTests.{IsTested, MeanHolds, CountHolds}
 use Rattle.certificate.proofs.RecordTests.{play-is, sum-is}
 
 module _ {lower : Lower} {x : Board} {stored : Stored} {plays : ℕ → ℕ}
@@ -29,26 +29,13 @@ module _ {lower : Lower} {x : Board} {stored : Stored} {plays : ℕ → ℕ}
   rolls-are : most_rolls (pips (at_rank (rank x))) ≡ most_rolls (pips x)
   rolls-are = ap (λ y. most_rolls (pips y)) (at_rank-rank x t.position)
 
-  -- the counts of the finished position
-  pub end-counts-hold : IsFinished x → (k : ℕ) → k ≤ 33 → CountHolds lower.bytes x k
-  end-counts-hold end zero le = (
-    λ many. absurd (omega (arith, many)),
-    (
-      λ _. told-at_end lower.bytes (rank x)
-          (ap pips (at_rank-rank x t.position) ∙ ap pips (only_finished x t.position end)),
-      λ unfinished. absurd (unfinished end),
-    ),
-  )
-  end-counts-hold end (suc k) le =
-      let none = rolls-are ∙ ap (λ y. most_rolls (pips y)) (only_finished x t.position end) in (
-        λ many few. absurd (omega (arith, few, none, rolls-are)),
-        (
-          λ _. told-beyond lower.bytes (rank x) (suc k) (omega (arith, none)),
-          λ unfinished. absurd (unfinished end),
-        ),
-      )
+  -- where a count is told the game goes on
+  pub told-unfinished : (k : ℕ) → 1 ≤ k → k ≤ most_rolls (pips x) → ¬ IsFinished x
+  told-unfinished k some within end =
+      let none = ap (λ y. most_rolls (pips y)) (only_finished x t.position end) in
+      omega (arith, none, some, within)
 
-  -- from any other one the numbers are those of the plays
+  -- from a position that isn't finished the numbers are those of the plays
   module _ (unfinished : ¬ IsFinished x) where
     pub results-are : AreResults x plays
     results-are i lt =
@@ -67,49 +54,67 @@ module _ {lower : Lower} {x : Board} {stored : Stored} {plays : ℕ → ℕ}
         ≡ weighted (λ v. g (play_in (board_book lower.bytes) x v))
     sum = sum-is (board_book lower.bytes) x plays t.read
 
-    -- the mean
-    pub mean-is : IsBoardMeanOf lower.bytes plays stored.bytes ↔ MeanHolds lower.bytes x
-    mean-is = (
-      λ is. (
-        subst (λ b. (mean_parts b).lower < 36 ^ 11) t.bytes is.written,
-        record {
-          at_end = λ end. absurd (unfinished end);
-          before = λ _.
-              ap (λ b. 36 * value_of_parts (mean_parts b)) (sym t.bytes)
-              ∙ is.equal
-              ∙ ap (λ n. 36 * 36 ^ 33 + n) (sum (board_mean lower.bytes));
-        },
-      ),
-      λ holds. record {
-        written = subst (λ b. (mean_parts b).lower < 36 ^ 11) (sym t.bytes) holds.0;
-        equal =
-            ap (λ b. 36 * value_of_parts (mean_parts b)) t.bytes
-            ∙ holds.1.before unfinished
-            ∙ ap (λ n. 36 * 36 ^ 33 + n) (sym (sum (board_mean lower.bytes)));
-      },
-    )
+    -- the parts of the mean are those of one roll and the plays exactly where it holds
+    pub mean-is : (mean : ℕ) →
+        36 * mean ≡ 36 * 36 ^ 33 + weighted (λ v. board_mean lower.bytes (plays (roll_index v))) →
+        ((mean_parts stored.bytes).upper ≡ mean / 36 ^ 11)
+        × ((mean_parts stored.bytes).lower ≡ mean % 36 ^ 11) ↔ MeanHolds lower.bytes x
+    mean-is mean value =
+        let read = ap (λ b. value_of_parts (mean_parts b)) t.bytes in
+        let added = sum (board_mean lower.bytes) in (
+          λ are. (
+            subst (λ b. (mean_parts b).lower < 36 ^ 11) t.bytes (omega (arith, are.1)),
+            record {
+              at_end = λ end. absurd (unfinished end);
+              before = λ _. omega (arith, are.0, are.1, value, read, added);
+            },
+          ),
+          λ holds.
+              let small = subst (λ b. (mean_parts b).lower < 36 ^ 11) (sym t.bytes) holds.0 in
+              let equal = holds.1.before unfinished in (
+                omega (arith, small, equal, value, read, added),
+                omega (arith, small, equal, value, read, added),
+              ),
+        )
 
-    -- a count that is told
-    pub count-is : (k : ℕ) → 1 ≤ k → k ≤ most_rolls (pips x) →
-        IsCountOf lower.bytes plays stored.bytes k ↔ CountHolds lower.bytes x k
-    count-is zero some within = absurd (omega arith)
-    count-is (suc k) some within =
+    -- .. and so are those of a count that is told
+    pub count-is : (k high low : ℕ) → 1 ≤ k → k ≤ most_rolls (pips x) →
+        high * 36 ^ 11 + low ≡ weighted (λ v. count_at lower.bytes (plays (roll_index v)) (k - 1)) →
+        (k - 1 < 11 → high ≡ 0) → (11 ≤ k - 1 → low < 36 ^ 11) →
+        ((count_parts stored.bytes k).upper ≡ high) × ((count_parts stored.bytes k).lower ≡ low)
+        ↔ CountHolds lower.bytes x k
+    count-is zero high low some within value one short = absurd (omega arith)
+    count-is (suc k) high low some within value one short =
         let told =
         told-within lower.bytes (rank x) (suc k) some (omega (arith, within, rolls-are))
         ∙ ap (λ b. value_of_parts (count_parts b (suc k))) (sym t.bytes) in
         let same =
-        ap (λ j. weighted (λ v. count_at lower.bytes (plays (roll_index v)) j)) (fewer k)
+        value
+        ∙ ap (λ j. weighted (λ v. count_at lower.bytes (plays (roll_index v)) j)) (fewer k)
         ∙ sum (λ r. count_at lower.bytes r k) in (
-          λ is. (
-            λ many few. subst (λ b. (count_parts b (suc k)).lower < 36 ^ 11) t.bytes
-                (is.written many),
-            (λ end. absurd (unfinished end), λ _. told ∙ is.equal ∙ same),
+          λ are. (
+            λ many few.
+                let here = short (omega (arith, many)) in
+                subst (λ b. (count_parts b (suc k)).lower < 36 ^ 11) t.bytes
+                (omega (arith, are.1, here)),
+            (
+              λ end. absurd (unfinished end),
+              λ _. told ∙ (omega (arith, are.0, are.1) ∙ same),
+            ),
           ),
-          λ holds. record {
-            written = λ many. subst (λ b. (count_parts b (suc k)).lower < 36 ^ 11) (sym t.bytes)
-                (holds.0 many within);
-            equal = sym told ∙ holds.1.1 unfinished ∙ sym same;
-          },
+          λ holds.
+              let equal = sym told ∙ holds.1.1 unfinished ∙ sym same in
+              ⊎_elim
+              (λ few.
+              let none = one (omega (arith, few)) in
+              let first = count-one stored.bytes (suc k) (omega (arith, few)) in
+              (omega (arith, none, first), omega (arith, none, first, equal)))
+              (λ many.
+              let here = short (omega (arith, many)) in
+              let there = subst (λ b. (count_parts b (suc k)).lower < 36 ^ 11) (sym t.bytes)
+              (holds.0 (omega (arith, many)) within) in
+              (omega (arith, here, there, equal), omega (arith, here, there, equal)))
+              (cases_lt (suc k) 12),
         )
       where
         fewer : (k : ℕ) → suc k - 1 ≡ k
@@ -131,59 +136,33 @@ module _ {lower : Lower} {x : Board} {stored : Stored} {plays : ℕ → ℕ}
         (meets-below lower.bytes lower.count (omega (arith, t.next, rank-range x t.position))
         t.local y.0 is (omega (arith, low, t.next))) k (omega (arith, from)) few
 
-    -- so all counts hold before one, where those that are told do
-    pub counts-hold : (n : ℕ) → n ≤ 34 →
-        ((j : ℕ) → 1 ≤ j → j < n → j ≤ most_rolls (pips x) →
-        IsCountOf lower.bytes plays stored.bytes j) → (k : ℕ) → k < n → CountHolds lower.bytes x k
-    counts-hold n most right zero lt = (
-      λ many. absurd (omega (arith, many)),
-      (
-        λ end. absurd (unfinished end),
-        λ _. told-at_once lower.bytes (rank x)
-            (λ none. unfinished (omega (
-              arith,
-              sum-at_most_pips 0 x,
-              none,
-              ap pips (at_rank-rank x t.position),
-            ))),
-      ),
-    )
-    counts-hold n most right (suc k) lt = ⊎_elim
-        (λ beyond. (
-          λ many within. absurd (omega arith),
-          (
-            λ end. absurd (unfinished end),
-            λ _.
-                told-beyond lower.bytes (rank x) (suc k) (omega (arith, beyond, rolls-are))
-                ∙ sym (weighted-none
-                (λ v. count_at lower.bytes (play_in (board_book lower.bytes) x v) k)
-                (later (most_rolls (pips x)) (ends_in_most x t.position) k (omega arith)
-                (omega arith))),
-          ),
-        ))
-        (λ within. (count-is (suc k) (omega arith) within).0
-        (right (suc k) (omega arith) lt within))
-        (cases_lt (most_rolls (pips x)) (suc k))
-
--- two parts are those of a number in the one way that is allowed
-pub parts-are : (f : List ℕ) (plays : ℕ → ℕ) (bytes : List ℕ) (k upper lower : ℕ) → 1 ≤ k →
-    upper * 36 ^ 11 + lower ≡ weighted (λ v. count_at f (plays (roll_index v)) (k - 1)) →
-    (k - 1 < 11 → upper ≡ 0) → (11 ≤ k - 1 → lower < 36 ^ 11) →
-    ((count_parts bytes k).upper ≡ upper) × ((count_parts bytes k).lower ≡ lower)
-    ↔ IsCountOf f plays bytes k
-parts-are f plays bytes k upper lower some value one short = (
-  λ same. record {
-    written = λ many. let here = short (omega (arith, many)) in omega (arith, same.1, here);
-    equal = omega (arith, same.0, same.1, value);
-  },
-  λ is. ⊎_elim
-      (λ few.
-      let none = one (omega (arith, few, some)) in
-      let told = count-one bytes k (omega (arith, few)) in
-      (omega (arith, none, told), omega (arith, none, told, is.equal, value)))
-      (λ many.
-      let here = short (omega (arith, many)) in
-      let there = is.written (omega (arith, many)) in
-      (omega (arith, here, there, is.equal, value), omega (arith, here, there, is.equal, value)))
-      (cases_lt k 12),
-)
+  -- a count that isn't told holds
+  pub untold-holds : (k : ℕ) → k ≤ 33 → (1 ≤ k → most_rolls (pips x) < k) →
+      CountHolds lower.bytes x k
+  untold-holds zero le beyond = (
+    λ many. absurd (omega (arith, many)),
+    (
+      λ end. told-at_end lower.bytes (rank x)
+          (ap pips (at_rank-rank x t.position) ∙ ap pips (only_finished x t.position end)),
+      λ unfinished. told-at_once lower.bytes (rank x)
+          (λ none. unfinished (omega (
+            arith,
+            sum-at_most_pips 0 x,
+            none,
+            ap pips (at_rank-rank x t.position),
+          ))),
+    ),
+  )
+  untold-holds (suc k) le beyond =
+      let more = beyond (omega arith) in
+      let none = told-beyond lower.bytes (rank x) (suc k) (omega (arith, more, rolls-are)) in (
+        λ many within. absurd (omega (arith, more)),
+        (
+          λ _. none,
+          λ unfinished. none
+              ∙ sym (weighted-none
+              (λ v. count_at lower.bytes (play_in (board_book lower.bytes) x v) k)
+              (later unfinished (most_rolls (pips x)) (ends_in_most x t.position) k
+              (omega (arith, more)) (omega arith))),
+        ),
+      )

@@ -15,19 +15,6 @@ use Rattle.db_layout.specs.LowerRecords.{Lower, AreLocalTo, board_mean}
 abbrev pub Holds : List ℕ → Board → ℕ → Type 0
 Holds f x i = IsPlayedIn (board_book f) x (roll_at i) × IsBestIn (board_book f) x (roll_at i)
 
--- the mean in the bytes of a record is written, and that of one roll and the plays
-pub record IsBoardMeanOf (f : List ℕ) (plays : ℕ → ℕ) (bytes : List ℕ) : Type 0 where
-  pub written : (mean_parts bytes).lower < 36 ^ 11
-  pub equal : 36 * value_of_parts (mean_parts bytes)
-      ≡ 36 * 36 ^ 33 + weighted (λ v. board_mean f (plays (roll_index v)))
-
--- .. and so is the count of k throws, for k from 1 on, by those of one throw fewer
-pub record IsCountOf (f : List ℕ) (plays : ℕ → ℕ) (bytes : List ℕ) (k : ℕ) : Type 0
-  where
-    pub written : 11 < k → (count_parts bytes k).lower < 36 ^ 11
-    pub equal : value_of_parts (count_parts bytes k)
-        ≡ weighted (λ v. count_at f (plays (roll_index v)) (k - 1))
-
 -- the mean of a position is written, and its equation holds
 abbrev pub MeanHolds : List ℕ → Board → Type 0
 MeanHolds f x = IsMeanWritten f x × HasMeanIn (board_book f) x

@@ -12,11 +12,13 @@ ghost use Rattle.db_layout.specs.LowerRecords.{board_mean};
 ghost use Rattle.certificate.specs.CheckFaults.{IsFirstOnBoard};
 ghost use Rattle.certificate.specs.RecordFaults.{IsFirstFaultOnBoardAt};
 
-use crate::board_numbers::{check_numbers, plays_in};
+use crate::board_numbers::plays_in;
 use crate::check_fault::{CheckFault, RecordFault, fault_at, of_refused};
 use crate::checked::check;
+use crate::equations::{PlayedRecord, check_numbers};
 use db_layout::{
-    BoardHeader, BoardPlace, BoardRecord, LowerRecords, leading_bits, parse_board_header,
+    BoardHeader, BoardPlace, BoardRecord, LowerRecords, WORDS, leading_bits, most_rolls,
+    parse_board_header, word_sums,
 };
 use db_reader::Whole;
 use least_plays::{LeastPlays, ROWS_TO_90, check_plays};
@@ -127,7 +129,21 @@ fn check_record(
     if let Err(refused) = check_plays(lower, ranks, &position, &recorded, &best) {
         return Err(of_refused(refused));
     }
-    match check_numbers(lower, stored, &position, &recorded) {
+    let words = if position.is_finished() {
+        [0; WORDS]
+    } else {
+        word_sums(lower, &recorded)
+    };
+    let rolls = most_rolls(position.pips());
+    let record = PlayedRecord {
+        lower,
+        stored,
+        position: &position,
+        plays: &recorded,
+        words: &words,
+        rolls,
+    };
+    match check_numbers(&record) {
         Ok(()) => Ok(()),
         Err(fault) => Err(fault),
     }

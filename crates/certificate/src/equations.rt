@@ -1,75 +1,164 @@
-//! The mean equation and the spread equation of a record, tested by the sums of what is recorded
-//! for the rolls.
-ghost use Rattle.std.specs.Prelude.{◌≡◌, ℕ, ◌<◌, ◌≤◌, ◌↔◌, IsTrue, IfSome, IfNone, IfErr, OnOk};
+//! The numbers of a record, tested one after another: those of a database by the sums of what is
+//! recorded for the rolls, and those of a board file by what the plays lead to.
+ghost use Rattle.std.specs.Prelude.{◌≡◌, ℕ, ◌+◌, ◌<◌, ◌≤◌, ◌↔◌, slice_index, IsTrue, IfErr, OnOk};
+ghost use Rattle.race_model.specs.Positions.{IsFinished, pips};
+ghost use Rattle.race_model.specs.Horizon.{most_rolls};
 ghost use Rattle.race_model.specs.Files.{mean_of, share_of};
+ghost use Rattle.db_layout.specs.BoardWords.{AreWordSums};
+ghost use Rattle.certificate.specs.BoardTests.{IsTested, MeanHolds, CountHolds};
 ghost use Rattle.certificate.specs.RecordNumbers.{IsMeanOf, IsShareOf};
 ghost use Rattle.certificate.specs.RecordFaults.{IsNumberFault};
 
 use crate::check_fault::RecordFault;
-use db_layout::RecordView;
+use db_layout::{BoardRecord, LowerRecords, Parts, RecordView, WORDS, count_of, mean_of};
 use fixed_fraction::{Sums, WHOLE};
+use home_board::Position;
 
-/// Tests the numbers of a record by the sums of what is recorded for its rolls, or by none for the
-/// finished position: the mean, and then the shares by their number of rolls.
+/// The numbers of a record, of either kind of file: its mean, and one for each number of throws.
+pub trait Numbers {
+    // it is known what the numbers are tested by
+    ghost IsReady: { Self → Type 0 };
+
+    // the most throws
+    ghost most: { ℕ };
+
+    // the mean holds
+    ghost IsMean: { Self → Type 0 };
+
+    // .. and so does the number of exactly so many throws
+    ghost IsNumber: { Self → ℕ → Type 0 };
+
+    /// From so many throws on each number holds.
+    fn end(&self) -> u8
+        requires { IsReady self.now }
+        ensures few { result ≤ most + 1 }
+        ensures beyond { (k : ℕ) → result ≤ k → k ≤ most → IsNumber self.now k };
+
+    /// Whether the mean holds.
+    fn has_mean(&self) -> bool
+        requires { IsReady self.now }
+        ensures { IsTrue result ↔ IsMean self.now };
+
+    /// Whether the number of exactly `k` throws does.
+    fn has_number(&self, k: u8) -> bool
+        requires ready { IsReady self.now }
+        requires few { k ≤ most }
+        ensures { IsTrue result ↔ IsNumber self.now k };
+}
+
+/// Tests the mean of a record, and then the others by their number of throws.
 #[inline(always)]
-pub fn check_numbers(view: &RecordView<'_>, sums: &Option<Sums>) -> Result<(), RecordFault>
-    ensures mean { OnOk result (IsMeanOf (mean_of view.now) sums.now) }
-    ensures shares { OnOk result
-        ((k : ℕ) → k ≤ 22 → IsShareOf (share_of view.now) sums.now k) }
-    ensures fault { IfErr result (IsNumberFault (IsMeanOf (mean_of view.now) sums.now)
-        (IsShareOf (share_of view.now) sums.now) 22) }
+pub fn check_numbers<N: Numbers>(numbers: &N) -> Result<(), RecordFault>
+    requires { N.IsReady numbers.now }
+    ensures mean { OnOk result (N.IsMean numbers.now) }
+    ensures each { OnOk result ((k : ℕ) → k ≤ N.most → N.IsNumber numbers.now k) }
+    ensures fault { IfErr result
+        (IsNumberFault (N.IsMean numbers.now) (N.IsNumber numbers.now) N.most) }
 {
-    if !has_mean(view, sums) {
+    if !numbers.has_mean() {
         return Err(RecordFault::Mean);
     }
-    match wrong_share(view, sums) {
-        Some(k) => Err(RecordFault::Spread { k }),
-        None => Ok(()),
-    }
-}
-
-/// Whether the mean of a record is one roll and that of the sums, or no roll for the finished
-/// position.
-fn has_mean(view: &RecordView<'_>, sums: &Option<Sums>) -> bool
-    ensures { IsTrue result ↔ IsMeanOf (mean_of view.now) sums.now }
-{
-    let stored = view.mean();
-    match sums {
-        Some(sums) => sums.is_mean(stored),
-        None => stored == 0,
-    }
-}
-
-/// Whether the share of exactly `k` rolls is that of the sums at one roll fewer, or the whole at
-/// no roll for the finished position.
-#[tactic(auto, unfolding(race_model::specs::LocalEquations::whole))]
-fn has_share(view: &RecordView<'_>, sums: &Option<Sums>, k: u8) -> bool
-    requires { k ≤ 22 }
-    ensures { IsTrue result ↔ IsShareOf (share_of view.now) sums.now k }
-{
-    let stored = view.spread(k);
-    match sums {
-        Some(_) if k == 0 => stored == 0,
-        Some(sums) => sums.is_later_share(k - 1, stored),
-        None if k == 0 => stored == WHOLE,
-        None => stored == 0,
-    }
-}
-
-/// The least number of rolls whose share is not that of the sums; none where there is no such
-/// number.
-fn wrong_share(view: &RecordView<'_>, sums: &Option<Sums>) -> Option<u8>
-    ensures right { IfNone result
-        ((k : ℕ) → k ≤ 22 → IsShareOf (share_of view.now) sums.now k) }
-    ensures few { IfSome result (λ k. k ≤ 22) }
-    ensures wrong { IfSome result (λ k. ¬ IsShareOf (share_of view.now) sums.now k) }
-    ensures earlier { IfSome result
-        (λ k. (j : ℕ) → j < k → IsShareOf (share_of view.now) sums.now j) }
-{
-    for k in 0..23 {
-        if !has_share(view, sums, k) {
-            return Some(k);
+    for k in 0..numbers.end() {
+        if !numbers.has_number(k) {
+            return Err(RecordFault::Spread { k });
         }
     }
-    None
+    Ok(())
+}
+
+/// The numbers of a record of a database, and the sums of what is recorded for its rolls, or none
+/// for the finished position.
+#[derive(Drop)]
+pub struct SummedRecord<'a> {
+    pub view: &'a RecordView<'a>,
+    pub sums: &'a Option<Sums>,
+}
+
+impl<'a> Numbers for SummedRecord<'a> {
+    ghost IsReady = { λ _. Unit {0} };
+
+    ghost most = { 22 };
+
+    ghost IsMean = { λ numbers. IsMeanOf (mean_of numbers.view.now) numbers.sums.now };
+
+    ghost IsNumber = { λ numbers. IsShareOf (share_of numbers.view.now) numbers.sums.now };
+
+    fn end(&self) -> u8 {
+        23
+    }
+
+    fn has_mean(&self) -> bool {
+        let stored = self.view.mean();
+        match self.sums {
+            Some(sums) => sums.is_mean(stored),
+            None => stored == 0,
+        }
+    }
+
+    #[tactic(auto, unfolding(race_model::specs::LocalEquations::whole))]
+    fn has_number(&self, k: u8) -> bool {
+        let stored = self.view.spread(k);
+        match self.sums {
+            Some(_) if k == 0 => stored == 0,
+            Some(sums) => sums.is_later_share(k - 1, stored),
+            None if k == 0 => stored == WHOLE,
+            None => stored == 0,
+        }
+    }
+}
+
+/// The numbers of a record of a board file whose plays hold, and the words of what these lead to.
+#[derive(Drop)]
+pub struct PlayedRecord<'a> {
+    pub lower: &'a LowerRecords<'a>,
+    pub stored: &'a BoardRecord<'a>,
+    pub position: &'a Position,
+    pub plays: &'a [u16; 21],
+    pub words: &'a [u64; WORDS],
+    pub rolls: u8,
+}
+
+impl<'a> Numbers for PlayedRecord<'a> {
+    ghost IsReady = { λ numbers.
+        (IsTested numbers.lower.now numbers.position.now numbers.stored.now
+            (slice_index numbers.plays.now))
+        × (¬ IsFinished numbers.position.now → AreWordSums numbers.lower.now.bytes
+            (slice_index numbers.plays.now) numbers.words.now)
+        × (numbers.rolls ≡ most_rolls (pips numbers.position.now)) };
+
+    ghost most = { 33 };
+
+    ghost IsMean = { λ numbers. MeanHolds numbers.lower.now.bytes numbers.position.now };
+
+    ghost IsNumber = { λ numbers. CountHolds numbers.lower.now.bytes numbers.position.now };
+
+    fn end(&self) -> u8 {
+        self.rolls + 1
+    }
+
+    fn has_mean(&self) -> bool {
+        let stored = self.stored.mean();
+        if self.position.is_finished() {
+            return are_equal(&stored, 0, 0);
+        }
+        let mean = mean_of(self.lower, self.position, self.plays);
+        are_equal(&stored, mean.upper(), mean.lower())
+    }
+
+    #[inline(always)]
+    fn has_number(&self, k: u8) -> bool {
+        if k == 0 || k > self.rolls {
+            return true;
+        }
+        let count = count_of(self.lower, self.plays, self.words, k - 1);
+        are_equal(&self.stored.count(k), count.upper, count.lower)
+    }
+}
+
+/// Whether a number has these parts.
+#[inline(always)]
+fn are_equal(stored: &Parts, upper: u128, lower: u64) -> bool
+    ensures { IsTrue result ↔ ((stored.now.upper ≡ upper) × (stored.now.lower ≡ lower)) }
+{
+    stored.upper == upper && stored.lower == lower
 }

@@ -20,7 +20,7 @@ ghost use Rattle.race_model.specs.Horizon.{most_rolls};
 ghost use Rattle.certificate.specs.RecordFaults.{IsFirstFaultAt};
 
 use crate::check_fault::{RecordFault, of_refused};
-use crate::equations::check_numbers;
+use crate::equations::{SummedRecord, check_numbers};
 use crate::kept::LowerRecords;
 use crate::numbers::plays_in;
 use crate::play_sums::sums_of;
@@ -160,7 +160,11 @@ pub fn check_record<T: Table, const ROOM: usize, const ROWS: usize>(
         Err(_) => return Err(RecordFault::Read),
     };
     let view = table.lend(rank, own);
-    if let Err(fault) = check_numbers(&view, &sums) {
+    let record = SummedRecord {
+        view: &view,
+        sums: &sums,
+    };
+    if let Err(fault) = check_numbers(&record) {
         return Err(fault);
     }
     lower.accept(rank, view.mean());

@@ -1,20 +1,24 @@
 -- The tests of one record.
 use Rattle.std.proofs.Common.{◌≡◌, ◌↔◌, ℕ, ◌<◌, ◌≤◌, slice_index, refl, sym, ap, subst, ◌∙◌}
+use Rattle.std.proofs.lemmas.Bool.{false≢true}
 use Rattle.race_model.specs.Positions.{Board, IsPosition, pips}
 use Rattle.race_model.specs.Ranks.{rank, at_rank}
 use Rattle.race_model.specs.Dice.{roll_at}
+use Rattle.race_model.specs.Horizon.{most_rolls}
 use Rattle.race_model.specs.BoardFiles.{board_book, board_record, board_play_of}
 use Rattle.race_model.specs.BoardEquations.{HoldsOnBoard, IsLocalOnBoard}
 use Rattle.race_model.specs.FirstFault.{spread_test}
 use Rattle.race_model.specs.Books.{play_in, whole_in}
 use Rattle.race_model.proofs.Books.Boards.{board_share_is_count, local_of_counts}
 use Rattle.race_model.proofs.Dice.Throws.{roll_of_index}
-use Rattle.certificate.specs.BoardTests.{MeanHolds, CountHolds}
+use Rattle.certificate.specs.BoardTests.{IsTested, MeanHolds, CountHolds}
 use Rattle.certificate.specs.RecordFaults.{IsFirstFaultOnBoardAt, IsNumberFault}
+use Rattle.certificate.proofs.BoardNumberTests.{below-are}
 use Rattle.certificate.proofs.RecordTests.{ArePlays, plays-hold, least-mean, first-refused, first-number}
 use Rattle.db_layout.specs.LowerRecords.{board_mean}
 use Rattle.least_plays.specs.Recorded.{IsLeastPlay}
 use Rattle.certificate.proofs.board_checker.check_record.Goals.{After-plays_in-recorded}
+use Rattle.certificate.proofs.board_checker.check_record.Goals.{then-is_finished, else-is_finished}
 use Rattle.certificate.proofs.board_checker.check_record.Goals as goal
 
 module _ (c : After-plays_in-recorded) where
@@ -38,14 +42,30 @@ module _ (c : After-plays_in-recorded) where
       ∙ ap (board_play_of (board_record c.args.lower.now.bytes (rank c.unwrap-position.result)))
       (sym (roll_of_index i lt).1)
 
-  -- what the tests of the plays tell of the book
-  held-here : ((i : ℕ) → i < 21 → IsLeastPlay (board_mean c.args.lower.now.bytes)
-      c.unwrap-position.result (roll_at i) (slice_index c.plays_in-recorded.result i)) →
-      ArePlays (board_book c.args.lower.now.bytes) c.unwrap-position.result
+  -- the tests of the plays are passed
+  abbrev AreLeast : Type 0
+  AreLeast = (i : ℕ) → i < 21 → IsLeastPlay (board_mean c.args.lower.now.bytes)
+      c.unwrap-position.result (roll_at i) (slice_index c.plays_in-recorded.result i)
+
+  -- .. and what they tell of the book
+  held-here : AreLeast → ArePlays (board_book c.args.lower.now.bytes) c.unwrap-position.result
   held-here =
       plays-hold (board_book c.args.lower.now.bytes) c.unwrap-position.result
       (slice_index c.plays_in-recorded.result) read at (board_mean c.args.lower.now.bytes)
       (λ _ v z legal. refl)
+
+  -- .. and of the record
+  tested : AreLeast → IsTested c.args.lower.now c.unwrap-position.result c.args.stored.now
+      (slice_index c.plays_in-recorded.result)
+  tested least = record {
+    position = at;
+    next = ranked ∙ c.requires.rank;
+    pips_are = c.requires.pips ∙ ap pips (sym same);
+    bytes = c.requires.bytes ∙ ap (board_record c.args.lower.now.bytes) (sym ranked);
+    read = read;
+    held = held-here least;
+    local = c.count-count.ensures.local;
+  }
 
 pub returns-in-Err-clause-first : goal.returns-in-Err-clause-first
 returns-in-Err-clause-first c lt =
@@ -57,20 +77,24 @@ returns-in-Err-clause-first c lt =
     (λ _ v z legal. refl) (HoldsOnBoard f) ⊥ c.args.rank lt (same here) (λ i. (λ h. h, λ h. h))
     (λ i. (λ h. h, λ h. h)) c.in-Err.refused (c.in-Err.ensures {u = tt}).fault)
 
--- the plays hold where their tests are passed
+pub word_sums-words-requires : goal.word_sums-words-requires
+word_sums-words-requires c =
+    let here = (goal.at.word_sums-words-requires c).After-plays_in-recorded in
+    below-are (tested here (c.in_default.ensures {u = tt}).least)
+    (λ end. false≢true (sym c.if-is_finished.false ∙ c.is_finished.ensures.value.1 end))
+
 pub check_numbers-requires : goal.check_numbers-requires
 check_numbers-requires c =
-    let here = (goal.at.check_numbers-requires c).After-plays_in-recorded in
-    let f = c.args.lower.now.bytes in
-    record {
-      position = at here;
-      next = ranked here ∙ c.requires.rank;
-      pips_are = c.requires.pips ∙ ap pips (sym (same here));
-      bytes = c.requires.bytes ∙ ap (board_record f) (sym (ranked here));
-      read = read here;
-      held = held-here here (c.in_default.ensures {u = tt}).least;
-      local = c.count-count.ensures.local;
-    }
+    let here = (goal.at.check_numbers-requires c).After-plays_in-recorded in (
+      tested here (c.in_default.ensures {u = tt}).least,
+      λ unfinished. elim c.if-is_finished.branch [
+        then-is_finished w ↦
+          absurd (unfinished (c.is_finished.ensures.value.0 w.if-is_finished.true))
+        | else-is_finished w ↦ λ i lt.
+          ap (λ words. slice_index words i) w.words-is ∙ w.word_sums-words.ensures.sums i lt
+      ],
+      c.most_rolls-rolls.ensures ∙ ap most_rolls c.pips.ensures.value,
+    )
 
 pub returns-in-Ok-clause-local : goal.returns-in-Ok-clause-local
 returns-in-Ok-clause-local c =
@@ -79,10 +103,10 @@ returns-in-Ok-clause-local c =
     let said = c.in-Ok.ensures {u = tt} in
     subst (IsLocalOnBoard f) (same here)
     (local_of_counts f c.unwrap-position.result
-    (record { mean = said.mean.0; counts = λ k le. (said.counts k le).0 })
+    (record { mean = said.mean.0; counts = λ k le. (said.each k le).0 })
     (least-mean (board_book f) (whole_in (board_book f)) c.unwrap-position.result
     (held-here here (c.in_default.ensures {u = tt}).least) said.mean.1)
-    (λ k le. (said.counts k le).1))
+    (λ k le. (said.each k le).1))
 
 pub returns-in-Err-check_numbers-clause-first : goal.returns-in-Err-check_numbers-clause-first
 returns-in-Err-check_numbers-clause-first c lt =

@@ -282,7 +282,7 @@ returns-clause-local g c file told =
     (held-here g (goal.at.returns-clause-local g c).After-plays_in-recorded file told
     (c.in_default-check_plays.ensures {u = tt}).least))
     (summed g at file told) (c.in_default-check_numbers.ensures {u = tt}).mean
-    (c.in_default-check_numbers.ensures {u = tt}).shares
+    (c.in_default-check_numbers.ensures {u = tt}).each
 
 pub returns-clause-kept : goal.returns-clause-kept
 returns-clause-kept g c = record {
