@@ -12,10 +12,10 @@ ghost use Rattle.db_layout.specs.LowerRecords.{board_mean};
 ghost use Rattle.certificate.specs.CheckFaults.{IsFirstOnBoard};
 ghost use Rattle.certificate.specs.RecordFaults.{IsFirstFaultOnBoardAt};
 
-use crate::board_numbers::plays_in;
 use crate::check_fault::{CheckFault, RecordFault, fault_at, of_refused};
 use crate::checked::check;
 use crate::equations::{PlayedRecord, check_numbers};
+use crate::numbers::plays_by;
 use db_layout::{
     BoardHeader, BoardPlace, BoardRecord, LowerRecords, WORDS, leading_bits, most_rolls,
     parse_board_header, word_sums,
@@ -125,7 +125,7 @@ fn check_record(
     let _count = lower.count();
     let position = ranks.unrank(rank).unwrap();
     let best = plays.advance(ranks, &position, lower);
-    let recorded = plays_in(stored);
+    let recorded = plays_by(|roll| stored.play(roll));
     if let Err(refused) = check_plays(lower, ranks, &position, &recorded, &best) {
         return Err(of_refused(refused));
     }

@@ -10,7 +10,6 @@
 #![tactic(auto)]
 
 pub mod board_checker;
-mod board_numbers;
 mod check_fault;
 mod checked;
 mod checker;

@@ -1,5 +1,6 @@
 //! The numbers of a record, where an accepted record can hold them.
-ghost use Rattle.std.specs.Prelude.{◌≡◌, ◌*◌, ◌≤◌, ◌↔◌, IsSome, IfSome, sum};
+ghost use Rattle.std.specs.Prelude.{◌≡◌, ℕ, ◌*◌, ◌<◌, ◌≤◌, ◌↔◌, IsSome, IfSome, length, slice_index, sum};
+ghost use Rattle.race_model.specs.Dice.{roll_at};
 ghost use Rattle.race_model.specs.Files.{mean_of};
 ghost use Rattle.race_model.specs.LocalEquations.{whole};
 ghost use Rattle.certificate.specs.RecordNumbers.{plays_of, shares_of};
@@ -20,10 +21,18 @@ pub fn mean_in(view: &RecordView<'_>) -> Option<Scaled>
 pub fn plays_in(view: &RecordView<'_>) -> [u16; 21]
     ensures { result ≡ plays_of view.now }
 {
+    plays_by(|roll| view.play(roll))
+}
+
+/// What is said of the rolls 0 to 20.
+pub fn plays_by<F: Fn(Roll) -> u16>(play: F) -> [u16; 21]
+    requires { F.IsAlwaysCallable play }
+    ensures each { (i : ℕ) → i < 21 → F.post play (roll_at i) (slice_index result i) }
+    ensures len { length result ≡ 21 }
+{
     let mut plays = [0; 21];
     for index in 0..21 {
-        let roll = Roll::from_index(index).unwrap();
-        plays[usize::from(index)] = view.play(roll);
+        plays[usize::from(index)] = play(Roll::from_index(index).unwrap());
     }
     plays
 }

@@ -1,27 +1,26 @@
 -- The tests of one record.
-use Rattle.std.proofs.Common.{◌≡◌, ◌↔◌, ℕ, ◌<◌, ◌≤◌, slice_index, refl, sym, ap, subst, ◌∙◌}
+use Rattle.std.proofs.Common.{◌≡◌, ◌↔◌, ℕ, ◌<◌, ◌≤◌, slice_index, refl, sym, ap, subst, ◌∙◌, rules}
 use Rattle.std.proofs.lemmas.Bool.{false≢true}
 use Rattle.race_model.specs.Positions.{Board, IsPosition, pips}
 use Rattle.race_model.specs.Ranks.{rank, at_rank}
-use Rattle.race_model.specs.Dice.{roll_at}
+use Rattle.race_model.specs.Dice.{roll_at, roll_index}
 use Rattle.race_model.specs.Horizon.{most_rolls}
 use Rattle.race_model.specs.BoardFiles.{board_book, board_record, board_play_of}
 use Rattle.race_model.specs.BoardEquations.{HoldsOnBoard, IsLocalOnBoard}
 use Rattle.race_model.specs.FirstFault.{spread_test}
 use Rattle.race_model.specs.Books.{play_in, whole_in}
 use Rattle.race_model.proofs.Books.Boards.{board_share_is_count, local_of_counts}
-use Rattle.race_model.proofs.Dice.Throws.{roll_of_index}
 use Rattle.certificate.specs.BoardTests.{IsTested, MeanHolds, CountHolds}
 use Rattle.certificate.specs.RecordFaults.{IsFirstFaultOnBoardAt, IsNumberFault}
 use Rattle.certificate.proofs.BoardNumberTests.{below-are}
 use Rattle.certificate.proofs.RecordTests.{ArePlays, plays-hold, least-mean, first-refused, first-number}
 use Rattle.db_layout.specs.LowerRecords.{board_mean}
 use Rattle.least_plays.specs.Recorded.{IsLeastPlay}
-use Rattle.certificate.proofs.board_checker.check_record.Goals.{After-plays_in-recorded}
+use Rattle.certificate.proofs.board_checker.check_record.Goals.{After-plays_by-recorded}
 use Rattle.certificate.proofs.board_checker.check_record.Goals.{then-is_finished, else-is_finished}
 use Rattle.certificate.proofs.board_checker.check_record.Goals as goal
 
-module _ (c : After-plays_in-recorded) where
+module _ (c : After-plays_by-recorded) where
   -- the position is that of the rank
   same : c.unwrap-position.result ≡ at_rank c.args.rank
   same = rw c.unwrap-position.ensures at c.unrank.ensures.value
@@ -33,30 +32,31 @@ module _ (c : After-plays_in-recorded) where
   at = rw c.unwrap-position.ensures at c.unrank.ensures.position
 
   -- what the record says of the rolls
-  read : (i : ℕ) → i < 21 → slice_index c.plays_in-recorded.result i
+  read : (i : ℕ) → i < 21 → slice_index c.plays_by-recorded.result i
       ≡ play_in (board_book c.args.lower.now.bytes) c.unwrap-position.result (roll_at i)
   read i lt =
-      c.plays_in-recorded.ensures i lt
-      ∙ ap (λ bytes. board_play_of bytes i) c.requires.bytes
-      ∙ ap (λ r. board_play_of (board_record c.args.lower.now.bytes r) i) (sym ranked)
-      ∙ ap (board_play_of (board_record c.args.lower.now.bytes (rank c.unwrap-position.result)))
-      (sym (roll_of_index i lt).1)
+      let said = c.plays_by-recorded.ensures.each i lt in
+      let told : slice_index c.plays_by-recorded.result i
+          ≡ board_play_of c.args.stored.now.bytes (roll_index (roll_at i)) = search rules in
+      told
+      ∙ ap (λ bytes. board_play_of bytes (roll_index (roll_at i)))
+      (c.requires.bytes ∙ ap (board_record c.args.lower.now.bytes) (sym ranked))
 
   -- the tests of the plays are passed
   abbrev AreLeast : Type 0
   AreLeast = (i : ℕ) → i < 21 → IsLeastPlay (board_mean c.args.lower.now.bytes)
-      c.unwrap-position.result (roll_at i) (slice_index c.plays_in-recorded.result i)
+      c.unwrap-position.result (roll_at i) (slice_index c.plays_by-recorded.result i)
 
   -- .. and what they tell of the book
   held-here : AreLeast → ArePlays (board_book c.args.lower.now.bytes) c.unwrap-position.result
   held-here =
       plays-hold (board_book c.args.lower.now.bytes) c.unwrap-position.result
-      (slice_index c.plays_in-recorded.result) read at (board_mean c.args.lower.now.bytes)
+      (slice_index c.plays_by-recorded.result) read at (board_mean c.args.lower.now.bytes)
       (λ _ v z legal. refl)
 
   -- .. and of the record
   tested : AreLeast → IsTested c.args.lower.now c.unwrap-position.result c.args.stored.now
-      (slice_index c.plays_in-recorded.result)
+      (slice_index c.plays_by-recorded.result)
   tested least = record {
     position = at;
     next = ranked ∙ c.requires.rank;
@@ -69,23 +69,23 @@ module _ (c : After-plays_in-recorded) where
 
 pub returns-in-Err-clause-first : goal.returns-in-Err-clause-first
 returns-in-Err-clause-first c lt =
-    let here = (goal.at.returns-in-Err-clause-first c).After-plays_in-recorded in
+    let here = (goal.at.returns-in-Err-clause-first c).After-plays_by-recorded in
     let f = c.args.lower.now.bytes in
     subst (IsFirstFaultOnBoardAt f c.args.rank) (sym c.of_refused.ensures)
     (first-refused (board_book f) c.unwrap-position.result
-    (slice_index c.plays_in-recorded.result) (read here) (at here) (board_mean f)
+    (slice_index c.plays_by-recorded.result) (read here) (at here) (board_mean f)
     (λ _ v z legal. refl) (HoldsOnBoard f) ⊥ c.args.rank lt (same here) (λ i. (λ h. h, λ h. h))
     (λ i. (λ h. h, λ h. h)) c.in-Err.refused (c.in-Err.ensures {u = tt}).fault)
 
 pub word_sums-words-requires : goal.word_sums-words-requires
 word_sums-words-requires c =
-    let here = (goal.at.word_sums-words-requires c).After-plays_in-recorded in
+    let here = (goal.at.word_sums-words-requires c).After-plays_by-recorded in
     below-are (tested here (c.in_default.ensures {u = tt}).least)
     (λ end. false≢true (sym c.if-is_finished.false ∙ c.is_finished.ensures.value.1 end))
 
 pub check_numbers-requires : goal.check_numbers-requires
 check_numbers-requires c =
-    let here = (goal.at.check_numbers-requires c).After-plays_in-recorded in (
+    let here = (goal.at.check_numbers-requires c).After-plays_by-recorded in (
       tested here (c.in_default.ensures {u = tt}).least,
       λ unfinished. elim c.if-is_finished.branch [
         then-is_finished w ↦
@@ -98,7 +98,7 @@ check_numbers-requires c =
 
 pub returns-in-Ok-clause-local : goal.returns-in-Ok-clause-local
 returns-in-Ok-clause-local c =
-    let here = (goal.at.returns-in-Ok-clause-local c).After-plays_in-recorded in
+    let here = (goal.at.returns-in-Ok-clause-local c).After-plays_by-recorded in
     let f = c.args.lower.now.bytes in
     let said = c.in-Ok.ensures {u = tt} in
     subst (IsLocalOnBoard f) (same here)
@@ -110,7 +110,7 @@ returns-in-Ok-clause-local c =
 
 pub returns-in-Err-check_numbers-clause-first : goal.returns-in-Err-check_numbers-clause-first
 returns-in-Err-check_numbers-clause-first c lt =
-    let here = (goal.at.returns-in-Err-check_numbers-clause-first c).After-plays_in-recorded in
+    let here = (goal.at.returns-in-Err-check_numbers-clause-first c).After-plays_by-recorded in
     let f = c.args.lower.now.bytes in
     let x = at_rank c.args.rank in
     first-number (board_book f) (HoldsOnBoard f) ⊥ c.args.rank lt
