@@ -1,15 +1,15 @@
 -- What is tested of the record of a position, by what its plays lead to.
-use Rattle.std.specs.Prelude.{◌≡◌, ℕ, ◌+◌, ◌-◌, ◌*◌, ◌^◌, ◌<◌, List}
+use Rattle.std.specs.Prelude.{◌≡◌, ℕ, ◌<◌, List}
 use Rattle.race_model.specs.Positions.{Board, IsPosition, pips}
 use Rattle.race_model.specs.Ranks.{rank}
-use Rattle.race_model.specs.Dice.{roll_at, roll_index, weighted}
+use Rattle.race_model.specs.Dice.{roll_at}
 use Rattle.race_model.specs.Books.{IsPlayedIn, play_in}
 use Rattle.race_model.specs.LocalEquations.{IsBestIn, HasMeanIn}
 use Rattle.race_model.specs.Endings.{HasCountIn}
-use Rattle.race_model.specs.BoardFiles.{board_book, board_record, count_at, mean_parts, count_parts, value_of_parts}
+use Rattle.race_model.specs.BoardFiles.{board_book, board_record, count_at}
 use Rattle.race_model.specs.WrittenNumbers.{IsMeanWritten, IsCountWritten}
 use Rattle.db_layout.specs.BoardRecords.{Stored}
-use Rattle.db_layout.specs.LowerRecords.{Lower, AreLocalTo, board_mean}
+use Rattle.db_layout.specs.LowerRecords.{Lower, AreLocalTo}
 
 -- what is recorded for a roll is a result, and the least
 abbrev pub Holds : List ℕ → Board → ℕ → Type 0

@@ -1,10 +1,9 @@
 //! The check of all records of a board file, by rising rank.
-ghost use Rattle.std.specs.Prelude.{◌≡◌, ℕ, ◌+◌, ◌<◌, ◌≤◌, ◌↔◌, IsOk, IfOk, IfErr, IsTrue, OnOk, length, slice_index};
+ghost use Rattle.std.specs.Prelude.{◌≡◌, ◌+◌, ◌<◌, ◌↔◌, IsOk, IfOk, IfErr, IsTrue, OnOk};
 ghost use Rattle.race_model.specs.Positions.{pips};
 ghost use Rattle.race_model.specs.Ranks.{at_rank, count_to};
-ghost use Rattle.race_model.specs.Files.{bound_of, bytes_at};
-ghost use Rattle.race_model.specs.BoardFiles.{board_length, board_record};
-ghost use Rattle.race_model.specs.BoardFiles.{IsBoardFile};
+ghost use Rattle.race_model.specs.Files.{bound_of};
+ghost use Rattle.race_model.specs.BoardFiles.{board_record, IsBoardFile};
 ghost use Rattle.race_model.specs.RightFiles.{IsRight, IsRightBoard};
 ghost use Rattle.race_model.specs.BoardEquations.{IsLocalOnBoard, IsLocalBoard};
 ghost use Rattle.least_plays.specs.Known.{Knows};
@@ -17,8 +16,8 @@ use crate::checked::check;
 use crate::equations::{PlayedRecord, check_numbers};
 use crate::numbers::plays_by;
 use db_layout::{
-    BoardHeader, BoardPlace, BoardRecord, LowerRecords, WORDS, leading_bits, most_rolls,
-    parse_board_header, word_sums,
+    BoardHeader, BoardRecord, LowerRecords, WORDS, leading_bits, most_rolls, parse_board_header,
+    word_sums,
 };
 use db_reader::Whole;
 use least_plays::{LeastPlays, ROWS_TO_90, check_plays};
@@ -79,7 +78,8 @@ fn check_records(bytes: &[u8], header: BoardHeader) -> Result<(), CheckFault>
         let place = header.find(rank);
         let count = usize::from(rank);
         let lower = LowerRecords::new(bytes, &offsets[..count], &leading[..count]);
-        let record = record_at(bytes, &place);
+        let stored = &bytes[place.offset..place.offset + place.length];
+        let record = BoardRecord::new(stored, place.pips).unwrap();
         if let Err(fault) = check_record(&lower, &record, &ranks, rank, &mut plays) {
             return Err(fault_at(rank, fault));
         }
@@ -87,19 +87,6 @@ fn check_records(bytes: &[u8], header: BoardHeader) -> Result<(), CheckFault>
         leading[count] = leading_bits(bytes, place.offset);
     }
     Ok(())
-}
-
-/// The record that stands at a place.
-fn record_at<'a>(bytes: &'a [u8], place: &BoardPlace) -> BoardRecord<'a>
-    requires within { place.now.offset + place.now.length ≤ length bytes.now }
-    requires low { place.now.pips ≤ 90 }
-    requires length { place.now.length ≡ board_length (place.now.pips) }
-    ensures pips { result.pips ≡ place.now.pips }
-    ensures bytes { result.bytes ≡ bytes_at bytes.now place.now.offset place.now.length }
-{
-    let end = place.offset + place.length;
-    let stored = &bytes[place.offset..end];
-    BoardRecord::new(stored, place.pips).unwrap()
 }
 
 /// Tests the record of a rank, where each of lower rank was accepted. The plays of the position

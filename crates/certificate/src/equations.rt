@@ -1,6 +1,6 @@
 //! The numbers of a record, tested one after another: those of a database by the sums of what is
 //! recorded for the rolls, and those of a board file by what the plays lead to.
-ghost use Rattle.std.specs.Prelude.{◌≡◌, ℕ, ◌+◌, ◌<◌, ◌≤◌, ◌↔◌, slice_index, IsTrue, IfErr, OnOk};
+ghost use Rattle.std.specs.Prelude.{◌≡◌, ℕ, ◌+◌, ◌≤◌, ◌↔◌, slice_index, IsTrue, IfErr, OnOk};
 ghost use Rattle.race_model.specs.Positions.{IsFinished, pips};
 ghost use Rattle.race_model.specs.Horizon.{most_rolls};
 ghost use Rattle.race_model.specs.Files.{mean_of, share_of};
@@ -121,9 +121,9 @@ pub struct PlayedRecord<'a> {
 impl<'a> Numbers for PlayedRecord<'a> {
     ghost IsReady = { λ numbers.
         (IsTested numbers.lower.now numbers.position.now numbers.stored.now
-            (slice_index numbers.plays.now))
+        (slice_index numbers.plays.now))
         × (¬ IsFinished numbers.position.now → AreWordSums numbers.lower.now.bytes
-            (slice_index numbers.plays.now) numbers.words.now)
+        (slice_index numbers.plays.now) numbers.words.now)
         × (numbers.rolls ≡ most_rolls (pips numbers.position.now)) };
 
     ghost most = { 33 };

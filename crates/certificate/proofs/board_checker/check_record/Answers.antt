@@ -37,7 +37,7 @@ module _ (c : After-plays_by-recorded) where
   read i lt =
       let said = c.plays_by-recorded.ensures.each i lt in
       let told : slice_index c.plays_by-recorded.result i
-          ≡ board_play_of c.args.stored.now.bytes (roll_index (roll_at i)) = search rules in
+      ≡ board_play_of c.args.stored.now.bytes (roll_index (roll_at i)) = search rules in
       told
       ∙ ap (λ bytes. board_play_of bytes (roll_index (roll_at i)))
       (c.requires.bytes ∙ ap (board_record c.args.lower.now.bytes) (sym ranked))
@@ -88,10 +88,10 @@ check_numbers-requires c =
     let here = (goal.at.check_numbers-requires c).After-plays_by-recorded in (
       tested here (c.in_default.ensures {u = tt}).least,
       λ unfinished. elim c.if-is_finished.branch [
-        then-is_finished w ↦
-          absurd (unfinished (c.is_finished.ensures.value.0 w.if-is_finished.true))
+        | then-is_finished w ↦
+            absurd (unfinished (c.is_finished.ensures.value.0 w.if-is_finished.true))
         | else-is_finished w ↦ λ i lt.
-          ap (λ words. slice_index words i) w.words-is ∙ w.word_sums-words.ensures.sums i lt
+            ap (λ words. slice_index words i) w.words-is ∙ w.word_sums-words.ensures.sums i lt
       ],
       c.most_rolls-rolls.ensures ∙ ap most_rolls c.pips.ensures.value,
     )

@@ -1,17 +1,16 @@
 -- The records are checked by rising rank; each is accepted or has the first fault.
-use Rattle.std.proofs.Common.{◌≡◌, ◌+◌, ◌<◌, ◌≤◌, length, take, length-take, length-set}
+use Rattle.std.proofs.Common.{◌≡◌, ◌+◌, ◌<◌, length, take, length-take, length-set}
 use Rattle.std.proofs.Common.{sym, ap, subst, ◌∙◌, arith, w32}
 use Rattle.std.proofs.lemmas.List.{get_or-take}
 use Rattle.std.proofs.Math.Facts.{Fits-of_lt}
-use Rattle.race_model.specs.Positions.{pips}
 use Rattle.race_model.specs.Ranks.{at_rank, count_to}
 use Rattle.race_model.specs.Files.{bound_of}
-use Rattle.race_model.specs.BoardFiles.{board_book, board_place, board_length, IsBoardFile}
+use Rattle.race_model.specs.BoardFiles.{board_book, board_place, IsBoardFile}
 use Rattle.race_model.specs.BoardEquations.{HoldsOnBoard, IsLocalOnBoard}
 use Rattle.race_model.specs.Headers.{IsFirstBoardHeaderFault}
 use Rattle.race_model.proofs.Numbers.Members.{set_next}
 use Rattle.race_model.proofs.Ranks.PositionTotals.{count_to-most}
-use Rattle.db_layout.proofs.BoardPlaces.{board_place-most, board_place-rises}
+use Rattle.db_layout.proofs.BoardPlaces.{board_place-most}
 use Rattle.least_plays.specs.Known.{Knows}
 use Rattle.db_layout.specs.LowerRecords.{AreRecords, AreLocalTo, board_mean, leading_at}
 use Rattle.certificate.specs.CheckFaults.{IsFirstOnBoard}
@@ -80,20 +79,13 @@ module _ (c : After-from-count) where
   end : length c.args.bytes.now ≡ board_place c.args.header.count
   end = c.requires.file.whole ∙ ap board_place (sym count-is)
 
-  inside : board_place c.loop-rank.rank + board_length (pips (at_rank c.loop-rank.rank))
-      ≤ length c.args.bytes.now
-  inside =
-      omega (
-        arith,
-        end,
-        board_place-rises c.loop-rank.rank c.args.header.count c.loop-rank-test.true,
-      )
-
   are : AreRecords c.args.bytes.now (take c.from-count.result c.loop-rank.offsets)
       (take c.from-count.result c.loop-rank.leading)
   are = record {
     few = omega (arith, long, few);
-    long = omega (arith, ap board_place long, inside);
+    long =
+        let place = c.find-place.ensures in
+        omega (arith, ap board_place long, end, place.offset, place.inside);
     begin = λ r lt.
         get_or-take c.from-count.result c.loop-rank.offsets r 0
         (omega (arith, lt, long, c.from-count.ensures))
@@ -118,11 +110,6 @@ slice_bounds-new-end-in-loop-rank c =
 
 pub new-lower-requires : goal.new-lower-requires
 new-lower-requires c = are (goal.at.new-lower-requires c).After-from-count
-
-pub record_at-record-requires-clause-within : goal.record_at-record-requires-clause-within
-record_at-record-requires-clause-within c =
-    let here = (goal.at.record_at-record-requires-clause-within c).After-from-count in
-    omega (arith, c.find-place.ensures.offset, c.find-place.ensures.length, inside here)
 
 pub check_record-requires-clause-rank : goal.check_record-requires-clause-rank
 check_record-requires-clause-rank c =

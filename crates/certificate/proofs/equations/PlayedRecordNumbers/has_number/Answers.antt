@@ -12,9 +12,9 @@ pub returns-then-k-eq0 : goal.returns-then-k-eq0
 returns-then-k-eq0 c =
     let beyond : 1 ≤ c.args.k → most_rolls (pips c.args.self.now.position.now) < c.args.k =
     λ some. elim c.then-k-eq0.branch [
-      then-k-eq0-via-then-k-eq0 w ↦ absurd (omega (arith, some, w.if-k-eq0.true))
+      | then-k-eq0-via-then-k-eq0 w ↦ absurd (omega (arith, some, w.if-k-eq0.true))
       | then-k-eq0-via-else-k-eq0+then-k-self w ↦
-        omega (arith, w.if-k-self.true, c.requires.ready.2)
+          omega (arith, w.if-k-self.true, c.requires.ready.2)
     ] in
     (λ _. untold-holds c.requires.ready.0 c.args.k c.requires.few beyond, λ _. refl)
 
