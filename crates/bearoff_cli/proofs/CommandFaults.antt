@@ -10,7 +10,7 @@ use Rattle.epc_query.specs.declared.run_fault.RunFault.TheVariants.{Memory as No
 use Rattle.bearoff_cli.specs.Causes.{of_check, of_run}
 use Rattle.bearoff_cli.specs.declared.fault.Fault.{Fault}
 use Rattle.bearoff_cli.specs.declared.fault.Fault.TheVariants.{Open, File, Read, Write, Memory, Turns, OverBound}
-use Rattle.bearoff_cli.specs.declared.fault.Fault.TheVariants.{Refused, NotOld}
+use Rattle.bearoff_cli.specs.declared.fault.Fault.TheVariants.{Refused, NotOld, Unanswered}
 use Rattle.bearoff_cli.specs.Faults.{IsAnswerFault, IsBuildFault, IsCheckFault, IsQueryFault, IsReadFault}
 use Rattle.bearoff_cli.specs.Faults.{IsUpgradeFault, HasUsedTurns, UsesTurns}
 
@@ -25,6 +25,7 @@ check_of_read Turns is = absurd is
 check_of_read OverBound is = absurd is
 check_of_read (Refused cause) is = absurd is
 check_of_read NotOld is = absurd is
+check_of_read Unanswered is = absurd is
 
 -- .. one that was refused can't be upgraded
 pub upgrade_of_check : (fault : Fault) → IsCheckFault fault → IsUpgradeFault fault
@@ -37,6 +38,7 @@ upgrade_of_check Turns is = absurd is
 upgrade_of_check OverBound is = absurd is
 upgrade_of_check (Refused cause) is = tt
 upgrade_of_check NotOld is = absurd is
+upgrade_of_check Unanswered is = absurd is
 
 -- .. nor into one that can't be written
 pub upgrade_of_build : (fault : Fault) → IsBuildFault fault → IsUpgradeFault fault
@@ -49,6 +51,7 @@ upgrade_of_build Turns is = absurd is
 upgrade_of_build OverBound is = absurd is
 upgrade_of_build (Refused cause) is = absurd is
 upgrade_of_build NotOld is = absurd is
+upgrade_of_build Unanswered is = absurd is
 
 -- .. and over one that can't be read nothing is answered
 pub query_of_read : (fault : Fault) → IsReadFault fault → IsQueryFault fault
@@ -61,6 +64,7 @@ query_of_read Turns is = absurd is
 query_of_read OverBound is = absurd is
 query_of_read (Refused cause) is = absurd is
 query_of_read NotOld is = absurd is
+query_of_read Unanswered is = absurd is
 
 -- the answers stopped
 pub query_of_answer : (fault : Fault) → IsAnswerFault fault → IsQueryFault fault
@@ -73,6 +77,7 @@ query_of_answer Turns is = tt
 query_of_answer OverBound is = absurd is
 query_of_answer (Refused cause) is = absurd is
 query_of_answer NotOld is = absurd is
+query_of_answer Unanswered is = absurd is
 
 -- a check refused a file, or could not read it
 pub check_refused : (cause : CheckFault) → IsCheckFault (of_check cause)
@@ -112,6 +117,7 @@ upgrade_turns input left Turns is = absurd is
 upgrade_turns input left OverBound is = absurd is
 upgrade_turns input left (Refused cause) is = λ given told. tt
 upgrade_turns input left NotOld is = λ given told. tt
+upgrade_turns input left Unanswered is = absurd is
 
 -- .. nor one that reads no file
 pub build_turns : (input left : Option (List ℕ)) (fault : Fault) → IsBuildFault fault
@@ -125,6 +131,7 @@ build_turns input left Turns is = absurd is
 build_turns input left OverBound is = absurd is
 build_turns input left (Refused cause) is = absurd is
 build_turns input left NotOld is = absurd is
+build_turns input left Unanswered is = absurd is
 
 -- a run whose reads ran out used so many
 pub run_turns : (input : List ℕ) (left : Option (List ℕ)) (cause : RunFault)

@@ -10,7 +10,7 @@ use Rattle.bearoff_cli.specs.Causes.{of_check}
 use Rattle.bearoff_cli.specs.Lines.{status_of}
 use Rattle.bearoff_cli.specs.declared.fault.Fault.{Fault}
 use Rattle.bearoff_cli.specs.declared.fault.Fault.TheVariants.{Open, File, Read, Write, Memory, Turns, OverBound}
-use Rattle.bearoff_cli.specs.declared.fault.Fault.TheVariants.{Refused, NotOld}
+use Rattle.bearoff_cli.specs.declared.fault.Fault.TheVariants.{Refused, NotOld, Unanswered}
 use Rattle.bearoff_cli.specs.Faults.{IsCheckFault}
 use Rattle.bearoff_cli.specs.StoppedRuns.{IsAboutEnd, IsNoFile, IsOfFile, IsRefusalOf, IsUnreadEnd, LeavesAbout}
 use Rattle.bearoff_cli.specs.Tellings.{IsExplainedFor}
@@ -55,6 +55,7 @@ no_file_check Turns is = absurd is
 no_file_check OverBound is = absurd is
 no_file_check (Refused cause) is = absurd is
 no_file_check NotOld is = absurd is
+no_file_check Unanswered is = absurd is
 
 -- .. and so is one that is
 of_file_check : {E : Type 0} (fault : Fault) (reason : Option E) → IsOfFile fault reason
@@ -68,6 +69,7 @@ of_file_check Turns reason is = absurd is
 of_file_check OverBound reason is = absurd is
 of_file_check (Refused cause) reason is = tt
 of_file_check NotOld reason is = absurd is
+of_file_check Unanswered reason is = absurd is
 
 -- such an end is a refusal of the request
 pub about_refusal : {A : Type 0} (From : List ℕ → List ℕ → Type 0) (path : List ℕ)

@@ -3,7 +3,8 @@ use Rattle.std.proofs.Common.{◌≡◌, ℕ, suc, ◌≤◌, List, [], ◌∷�
 use Rattle.std.proofs.Common.{IfErr, refl, subst, sym, arith}
 use Rattle.std.proofs.lemmas.List.{take_all, take-append-le}
 use Rattle.std.specs.Io.KnownBytes.{Appends, Consumes, IsAtEnd}
-use Rattle.std.specs.Prelude.{OnErr, OnOk, true, is_err}
+use Rattle.std.specs.List.{IsAnyAnswer}
+use Rattle.std.specs.Prelude.{OnErr, OnOk, Bool, true, is_err}
 use Rattle.race_model.specs.Ranks.{count_to}
 use Rattle.race_model.specs.Versions.{Version, full, compact, version_number}
 use Rattle.race_model.specs.Files.{version_of, bound_of}
@@ -16,7 +17,8 @@ use Rattle.epc_query.proofs.Runs.{read_all, read_front}
 use Rattle.whole_file.specs.Disks.{Moment}
 use Rattle.whole_file.specs.Paths.{Paths, ReadsBehind}
 use Rattle.bearoff_cli.proofs.Requests.{IsNot}
-use Rattle.bearoff_cli.specs.FileAnswers.{AreAnswered, AreAnsweredFrom, IsHandedTo, IsReadFrom, SaysAbout, SaysLevels}
+use Rattle.bearoff_cli.specs.FileAnswers.{AnswersWords, AreAnswered, AreAnsweredFrom, IsAnsweredBy, IsHandedTo}
+use Rattle.bearoff_cli.specs.FileAnswers.{IsReadFrom, SaysAbout, SaysLevels}
 use Rattle.bearoff_cli.specs.FileAnswers.{SaysRight, SaysUpgraded, WritesLevels, about_file, about_text, count_line}
 use Rattle.epc_query.specs.Kinds.{IsRightAs, book_as, version_as}
 use Rattle.bearoff_cli.specs.Kinds.{kind_as, stated_kind}
@@ -92,21 +94,19 @@ over_read kind From file given left old new (Ok x) read is =
 over_read kind From file given left old new (Err e) read is = tt
 
 -- .. to lines that are words, which were all read then
-pub words_answered : {A E : Type 0} (From : List ℕ → Type 0) (given : List ℕ)
-    (left old new : Option (List ℕ)) (r : Result A E)
-    → OnOk r (WhereTold (Some given) (λ text. AreAnsweredFrom None From text left old new))
-    → OnOk r (AreAnsweredFrom None From given (Some []) old new)
-words_answered From given left old new (Ok x) is =
-    let it = is given refl in record {
-      file = it.file;
-      read = it.read;
-      answered = record {
-        right = it.answered.right;
-        end = refl;
-        replies = it.answered.replies;
-      };
-    }
-words_answered From given left old new (Err e) is = tt
+pub words_answered : (some : Bool) (From : List ℕ → Type 0) (kind : Kind) (file given : List ℕ)
+    (bound : ℕ) (left old new : Option (List ℕ)) → From file → kind ≡ stated_kind file
+    → bound ≡ bound_of file → AreAnswered kind file given left old new
+    → IsAnyAnswer (IsAnsweredBy bound) (lines_of given) some → AnswersWords some From given old new
+words_answered some From kind file given bound left old new read stated low is has =
+    let it = subst (λ kind. AreAnswered kind file given left old new) stated is in (
+      record {
+        file = file;
+        read = read;
+        answered = record { right = it.right; end = refl; replies = it.replies };
+      },
+      subst (λ n. IsAnyAnswer (IsAnsweredBy n) (lines_of given) some) low has,
+    )
 
 -- a version that is not the second is the first
 pub is_full : (v : Version) → ¬ (version_number v ≡ 2) → v ≡ full

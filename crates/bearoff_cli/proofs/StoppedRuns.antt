@@ -1,6 +1,6 @@
 -- What stands in the output where a command failed, from what its parts wrote.
 use Rattle.std.proofs.Common.{◌≡◌, ℕ, suc, ◌≤◌, ◌⊎◌, inl, inr, List, ◌∷◌, [], ◌++◌, take, Option, None, Some, Result}
-use Rattle.std.proofs.Common.{Ok, Err, IfErr, refl, subst, arith}
+use Rattle.std.proofs.Common.{Ok, Err, IfErr, refl, ap, subst, ◌∙◌, arith}
 use Rattle.std.specs.Prelude.{OnErr}
 use Rattle.std.specs.Io.KnownBytes.{Keeps}
 use Rattle.std.proofs.lemmas.List.{append-nil}
@@ -23,11 +23,12 @@ use Rattle.epc_query.proofs.Runs.{failed_flush, flushed, read_front, stopped_in}
 use Rattle.bearoff_cli.specs.declared.fault.Fault.{Fault}
 use Rattle.bearoff_cli.specs.FileAnswers.{WritesLevels, count_line}
 use Rattle.epc_query.specs.Kinds.{IsRightAs}
-use Rattle.bearoff_cli.specs.Kinds.{kind_as}
-use Rattle.bearoff_cli.specs.StoppedRuns.{AreStopped, IsNothingOr, Leaves, LeavesReplies, WritesLevelsPart}
+use Rattle.bearoff_cli.specs.Kinds.{kind_as, stated_kind}
+use Rattle.bearoff_cli.specs.StoppedRuns.{AreStopped, IsNothingOr, LeavesWords, WritesLevelsPart}
 use Rattle.bearoff_cli.specs.StoppedRuns.{WritesLevelPart}
-use Rattle.command_line.specs.Asked.{ask}
-use Rattle.bearoff_cli.specs.Faults.{UsesTurns}
+use Rattle.bearoff_cli.specs.Faults.{IsAnswerFault, UsesTurns}
+use Rattle.bearoff_cli.proofs.CommandFaults.{query_of_answer}
+use Rattle.db_reader.specs.Telling.{WhereTold}
 use Rattle.bearoff_cli.specs.declared.act.Done.{Done}
 
 -- whole lines of pip counts are a part of all lines
@@ -91,14 +92,26 @@ read_stopped kind From file given left old new (Err e) read (inr stops) =
     inr (file, read, stops.right, stops)
 
 -- .. where the lines are words
-pub words_stopped : {A : Type 0} (From : List ℕ → List ℕ → Type 0) (path given : List ℕ)
-    (input rest old new : Option (List ℕ)) (r : Result A Fault)
-    → IfErr r (UsesTurns (Some given) rest)
-    → IfErr r (LeavesReplies None (From path) (Some given) rest old new)
-    → IfErr r (Leaves From (ask path given) input input old new)
-words_stopped From path given input rest old new (Ok x) turns leaves = tt
-words_stopped From path given input rest old new (Err e) turns leaves =
-    (refl, (rest, turns, leaves))
+pub words_stopped : (From : List ℕ → Type 0) (kind : Kind) (file words given : List ℕ)
+    (rest old new : Option (List ℕ)) (fault : Fault) → From file → kind ≡ stated_kind file
+    → words ≡ given → IsAnswerFault fault → UsesTurns (Some words) rest fault
+    → WhereTold (Some words) (λ text. AreStopped kind file text rest old new fault)
+    → LeavesWords From given old new fault
+words_stopped From kind file words given rest old new fault read stated same cause turns stops =
+    inr (query_of_answer fault cause, (
+      rest,
+      subst (λ text. UsesTurns (Some text) rest fault) same turns,
+      λ text told.
+          let it = subst (λ kind. AreStopped kind file text rest old new fault) stated
+          (stops text (ap Some same ∙ told)) in
+          inr (file, read, it.right, it),
+    ))
+
+-- .. and the input is left alone
+pub beside_words : {A : Type 0} (input : Option (List ℕ)) (Left : Fault → Type 0)
+    (r : Result A Fault) → IfErr r Left → IfErr r (λ fault. (input ≡ input) × Left fault)
+beside_words input Left (Ok x) left = tt
+beside_words input Left (Err e) left = (refl, left)
 
 -- .. and over the built one
 pub built_stopped : {A : Type 0} (file given : List ℕ) (left old new : Option (List ℕ))

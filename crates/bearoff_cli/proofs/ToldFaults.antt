@@ -21,7 +21,7 @@ use Rattle.bearoff_cli.specs.Lines.{error_line, status_of}
 use Rattle.bearoff_cli.specs.Meanings.{meaning_line, shown}
 use Rattle.bearoff_cli.specs.declared.fault.Fault.{Fault}
 use Rattle.bearoff_cli.specs.declared.fault.Fault.TheVariants.{Open, File, Read, Write, Memory, Turns, OverBound}
-use Rattle.bearoff_cli.specs.declared.fault.Fault.TheVariants.{Refused, NotOld}
+use Rattle.bearoff_cli.specs.declared.fault.Fault.TheVariants.{Refused, NotOld, Unanswered}
 use Rattle.command_line.specs.Asked.{Asked, default, build, check, query, ask, about, audit, upgrade}
 use Rattle.bearoff_cli.specs.Faults.{CanEnd, IsBoundFault, IsFaultIn, IsFirstAs, IsOwnFault, IsFaultOf, UsesTurns}
 use Rattle.bearoff_cli.specs.StoppedRuns.{IsBare, IsEndOf, IsOfFile, IsRefusalOf, Leaves, RunsOut}
@@ -57,6 +57,7 @@ status_in kind file Turns is = tt
 status_in kind file OverBound is = absurd (omega (arith, is))
 status_in kind file (Refused cause) is = absurd (omega (arith, is))
 status_in kind file NotOld is = absurd (omega (arith, is))
+status_in kind file Unanswered is = tt
 
 -- the answers to an input stopped
 pub run_in : (kind : Kind) (file : List ℕ) (cause : RunFault) → IsFaultIn kind file (of_run cause)
@@ -109,7 +110,7 @@ nothing_of From (check kind path) input old = inl refl
 nothing_of From (query kind path None) input old = λ given told. inl refl
 nothing_of From (query kind path (Some records)) input old = tt
 nothing_of From (ask path lines) input old =
-    (refl, (Some lines, (λ given told. tt), (λ given told. inl refl)))
+    (refl, inr (tt, (Some lines, (λ given told. tt), (λ given told. inl refl))))
 nothing_of From (about path) input old = inl refl
 nothing_of From (audit kind path) input old = inl refl
 nothing_of From (upgrade before after) input old = inl refl
@@ -139,7 +140,7 @@ memory_end From asked input old = (
     can_want (build kind pips path) = record { within = λ low. tt; over = λ over. inr refl }
     can_want (check kind path) = tt
     can_want (query kind path records) = tt
-    can_want (ask path lines) = tt
+    can_want (ask path lines) = inr tt
     can_want (about path) = tt
     can_want (audit kind path) = tt
     can_want (upgrade before after) = tt
@@ -199,6 +200,7 @@ no_turns Can never input left (Err fault) is = none_at fault is
     none_at OverBound is = λ given told. tt
     none_at (Refused cause) is = λ given told. tt
     none_at NotOld is = λ given told. tt
+    none_at Unanswered is = λ given told. tt
 
 abbrev IsTurns : Fault → Type 0
 IsTurns Turns = Unit {0}
@@ -238,6 +240,7 @@ bare_text (about path) Turns is = absurd is
 bare_text (about path) OverBound is = absurd is
 bare_text (about path) (Refused cause) is = absurd is
 bare_text (about path) NotOld is = absurd is
+bare_text (about path) Unanswered is = absurd is
 bare_text (audit kind path) fault is = refl
 bare_text (upgrade before after) fault is = refl
 
@@ -256,6 +259,7 @@ explained_text path (Refused cause) error reason is of =
     let none : reason ≡ [] = subst (λ e. IsReasonOf e reason) of is in
     ap (λ r. error_line (Refused cause) ++ meaning_line (shown path) (Refused cause) r) none
 explained_text path NotOld error reason is of = absurd of
+explained_text path Unanswered error reason is of = absurd of
 
 -- what is told of any end that is no mistake in the words
 pub told_any : {A : Type 0} (words : List (List ℕ)) (r : Result A ProgramFault) (status : ℕ)
@@ -318,6 +322,7 @@ some_status Turns is = omega (arith, is)
 some_status OverBound is = omega (arith, is)
 some_status (Refused cause) is = omega (arith, is)
 some_status NotOld is = omega (arith, is)
+some_status Unanswered is = omega (arith, is)
 
 -- what holds of a request that was fulfilled holds at the status 0
 pub told_done : {A P : Type 0} (r : Result A ProgramFault) (status : ℕ) (Line : List ℕ → Type 0)

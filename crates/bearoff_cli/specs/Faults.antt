@@ -13,7 +13,7 @@ use Rattle.command_line.specs.Asked.{Asked, default, build, check, query, ask, a
 use Rattle.bearoff_cli.specs.Lines.{status_of}
 use Rattle.bearoff_cli.specs.declared.fault.Fault.{Fault}
 use Rattle.bearoff_cli.specs.declared.fault.Fault.TheVariants.{Open, File, Read, Write, Memory, Turns, OverBound}
-use Rattle.bearoff_cli.specs.declared.fault.Fault.TheVariants.{Refused, NotOld}
+use Rattle.bearoff_cli.specs.declared.fault.Fault.TheVariants.{Refused, NotOld, Unanswered}
 use Rattle.bearoff_cli.specs.Kinds.{greatest, kind_as}
 use Rattle.bearoff_cli.specs.declared.files.Unread.{Unread}
 use Rattle.bearoff_cli.specs.declared.files.Unread.TheVariants as unread
@@ -98,6 +98,10 @@ IsQueryFault Open = Unit {0}
 IsQueryFault (Refused cause) = Unit {0}
 IsQueryFault fault = IsAnswerFault fault
 
+-- .. to lines that are words, of which none may be answered
+abbrev pub IsAskFault : Fault → Type 0
+IsAskFault fault = (fault ≡ Unanswered) ⊎ IsQueryFault fault
+
 -- a build of a pip bound: one over the greatest is told as that, if not as want of memory, and no
 -- other one is
 pub record IsBoundFault (most pips : ℕ) (fault : Fault) : Type 0 where
@@ -109,7 +113,7 @@ abbrev pub CanEnd : Asked → Fault → Type 0
 CanEnd default = IsAnswerFault
 CanEnd (build kind pips path) = IsBoundFault (greatest kind) pips
 CanEnd (query kind path records) = IsQueryFault
-CanEnd (ask path lines) = IsQueryFault
+CanEnd (ask path lines) = IsAskFault
 CanEnd (upgrade before after) = IsUpgradeFault
 CanEnd _ = IsCheckFault
 

@@ -1,11 +1,14 @@
 -- What the program writes of a database or a board file, and for lines. Source: this project's
 -- profile.
-use Rattle.std.specs.Prelude.{◌≡◌, ℕ, zero, suc, List, [], ◌∷◌, ◌++◌, take, Option, codes, decimal}
+use Rattle.std.specs.Prelude.{◌≡◌, ℕ, zero, suc, Bool, true, false, List, [], ◌∷◌, ◌++◌, take, Option, None, Some}
+use Rattle.std.specs.Prelude.{codes, decimal}
+use Rattle.std.specs.List.{IsAnyAnswer}
 use Rattle.std.specs.Io.KnownBytes.{Appends, IsAtEnd}
 use Rattle.race_model.specs.BuiltFile.{IsBuilt}
 use Rattle.race_model.specs.BoardFiles.{board_book}
 use Rattle.race_model.specs.InputLines.{lines_of}
 use Rattle.race_model.specs.Levels.{IsLevelLine, IsLevelLineIn}
+use Rattle.race_model.specs.Queries.{Query, Refusal, IsAccepted, IsRefused}
 use Rattle.race_model.specs.Ranks.{count_to}
 use Rattle.race_model.specs.Versions.{full}
 use Rattle.race_model.specs.Files.{version_of, bound_of}
@@ -60,6 +63,17 @@ pub record AreAnsweredFrom (kind : Option Kind)
   pub file : List ℕ
   pub read : From file
   pub answered : AreAnswered (kind_as kind file) file given left old new
+
+-- whether a file of a bound answers a line: what the line asks, or why it is refused
+abbrev pub IsAnsweredBy : ℕ → List ℕ → Bool → Type 0
+IsAnsweredBy bound line true = (q : Query) × IsAccepted bound line q
+IsAnsweredBy bound line false = (why : Refusal) × IsRefused bound line why
+
+-- the replies to lines that are words were written, of which some are answers, or each is a refusal
+abbrev pub AnswersWords : Bool → (List ℕ → Type 0) → List ℕ
+    → Option (List ℕ) → Option (List ℕ) → Type 0
+AnswersWords some From lines old new = (it : AreAnsweredFrom None From lines (Some []) old new)
+    × IsAnyAnswer (IsAnsweredBy (bound_of it.file)) (lines_of lines) some
 
 -- the words for what was done
 abbrev pub count_text : Done → List ℕ

@@ -3,7 +3,7 @@ use Rattle.std.specs.Prelude.{ℕ, List, ◌++◌, codes}
 use Rattle.certificate.specs.CheckFaults.{line_of}
 use Rattle.bearoff_cli.specs.declared.fault.Fault.{Fault}
 use Rattle.bearoff_cli.specs.declared.fault.Fault.TheVariants.{Open, File, Read, Write, Memory, Turns, OverBound}
-use Rattle.bearoff_cli.specs.declared.fault.Fault.TheVariants.{Refused, NotOld}
+use Rattle.bearoff_cli.specs.declared.fault.Fault.TheVariants.{Refused, NotOld, Unanswered}
 
 -- the word of a fault; that of a refused database is followed by the fault of the database
 abbrev pub word_of : Fault → List ℕ
@@ -16,13 +16,14 @@ word_of Turns = codes "turns"
 word_of OverBound = codes "over-bound"
 word_of (Refused fault) = codes "refused " ++ line_of fault
 word_of NotOld = codes "not-old"
+word_of Unanswered = codes "unanswered (a LINE is one word: 'mean 0,0,0,0,0,1')"
 
 -- what is written to standard error
 abbrev pub error_line : Fault → List ℕ
 error_line fault = codes "bearoff: " ++ word_of fault ++ codes "\n"
 
--- 1 for what failed outside the database, 2 for a bound that is too large, 3 for a database that
--- was refused, or that is no old one
+-- 1 for what failed outside the database, and for lines of which none was answered, 2 for a bound
+-- that is too large, 3 for a database that was refused, or that is no old one
 abbrev pub status_of : Fault → ℕ
 status_of OverBound = 2
 status_of (Refused fault) = 3

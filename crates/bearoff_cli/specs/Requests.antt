@@ -1,11 +1,11 @@
 -- What a command has done and leaves, however it ends. Source: this project's profile.
-use Rattle.std.specs.Prelude.{◌≡◌, ℕ, ◌<◌, ◌≤◌, List, [], Option, Some, None, Result, IfErr, OnOk}
+use Rattle.std.specs.Prelude.{◌≡◌, ℕ, ◌<◌, ◌≤◌, true, List, Option, Some, None, Result, IfErr, OnOk}
 use Rattle.std.specs.Io.KnownBytes.{Appends}
 use Rattle.race_model.specs.Ranks.{count_to}
 use Rattle.command_line.specs.Asked.{Asked, default, build, check, query, ask, about, audit, upgrade}
 use Rattle.db_reader.specs.Telling.{WhereTold}
-use Rattle.bearoff_cli.specs.FileAnswers.{AreAnsweredOver, AreAnsweredFrom, IsHandedTo, IsReadFrom, SaysAbout}
-use Rattle.bearoff_cli.specs.FileAnswers.{SaysRight, SaysUpgraded, SaysLevels, count_line}
+use Rattle.bearoff_cli.specs.FileAnswers.{AnswersWords, AreAnsweredOver, AreAnsweredFrom, IsHandedTo, IsReadFrom}
+use Rattle.bearoff_cli.specs.FileAnswers.{SaysAbout, SaysRight, SaysUpgraded, SaysLevels, count_line}
 use Rattle.whole_file.specs.Disks.{Moment}
 use Rattle.whole_file.specs.Paths.{Paths}
 use Rattle.bearoff_cli.specs.Kinds.{WritesBuiltOf, greatest}
@@ -33,7 +33,7 @@ IsDone From contents (query kind path None) input left old new =
     WhereTold input (λ given. AreAnsweredFrom (Some kind) (From path) given left old new)
 IsDone From contents (query kind path (Some records)) input left old new = Unit {0}
 IsDone From contents (ask path lines) input left old new =
-    (left ≡ input) × AreAnsweredFrom None (From path) lines (Some []) old new
+    (left ≡ input) × AnswersWords true (From path) lines old new
 IsDone From contents (about path) input left old new = SaysAbout (From path) old new
 IsDone From contents (audit kind path) input left old new =
     SaysLevels (Some kind) (From path) old new

@@ -1,6 +1,6 @@
 -- What stands in the output where a command ends with another status than 0. Source: this
 -- project's profile.
-use Rattle.std.specs.Prelude.{◌≡◌, ℕ, suc, ◌≤◌, ◌⊎◌, List, [], ◌∷◌, ◌++◌, Option, Some, None}
+use Rattle.std.specs.Prelude.{◌≡◌, ℕ, suc, ◌≤◌, ◌⊎◌, false, List, [], ◌∷◌, ◌++◌, Option, Some, None}
 use Rattle.race_model.specs.BuiltFile.{IsBuilt}
 use Rattle.race_model.specs.Files.{version_of, bound_of}
 use Rattle.race_model.specs.Ranks.{count_to}
@@ -15,9 +15,9 @@ use Rattle.epc_query.specs.declared.run_fault.RunFault.{RunFault}
 use Rattle.command_line.specs.Asked.{Asked, default, build, check, query, ask, about, audit, upgrade}
 use Rattle.bearoff_cli.specs.Causes.{of_run}
 use Rattle.bearoff_cli.specs.declared.fault.Fault.{Fault}
-use Rattle.bearoff_cli.specs.declared.fault.Fault.TheVariants.{Open, File, Write, Memory, Refused}
-use Rattle.bearoff_cli.specs.Faults.{CanEnd, IsFaultOf, IsOwnFault, UsesTurns}
-use Rattle.bearoff_cli.specs.FileAnswers.{AreLevelLines, IsLevelLineAs, about_file, count_line}
+use Rattle.bearoff_cli.specs.declared.fault.Fault.TheVariants.{Open, File, Write, Memory, Refused, Unanswered}
+use Rattle.bearoff_cli.specs.Faults.{CanEnd, IsFaultOf, IsOwnFault, IsQueryFault, UsesTurns}
+use Rattle.bearoff_cli.specs.FileAnswers.{AnswersWords, AreLevelLines, IsLevelLineAs, about_file, count_line}
 use Rattle.epc_query.specs.Kinds.{IsRightAs, book_as}
 use Rattle.bearoff_cli.specs.Kinds.{kind_as}
 use Rattle.bearoff_cli.specs.declared.act.Done.TheVariants.{Built, Checked, Upgraded}
@@ -66,6 +66,14 @@ LeavesReplies kind From input left old new fault = WhereTold input (λ given.
     IsNothingOr kind From (λ file. AreStopped (kind_as kind file) file given left old new fault)
     old new)
 
+-- .. where these are words: all replies where none is answered, and else as of an input
+abbrev pub LeavesWords : (List ℕ → Type 0) → List ℕ → Option (List ℕ) → Option (List ℕ) → Fault
+    → Type 0
+LeavesWords From lines old new fault =
+    ((fault ≡ Unanswered) × AnswersWords false From lines old new)
+    ⊎ (IsQueryFault fault × ((rest : Option (List ℕ)) × UsesTurns (Some lines) rest fault
+    × LeavesReplies None From (Some lines) rest old new fault))
+
 -- .. of the line of an accepted one
 abbrev pub LeavesLine : Option Kind → (List ℕ → Type 0)
     → Option (List ℕ) → Option (List ℕ) → Type 0
@@ -100,9 +108,8 @@ Leaves From (check kind path) input left old new fault =
 Leaves From (query kind path None) input left old new fault =
     LeavesReplies (Some kind) (From path) input left old new fault
 Leaves From (query kind path (Some records)) input left old new fault = Unit {0}
-Leaves From (ask path lines) input left old new fault = (left ≡ input)
-    × ((rest : Option (List ℕ)) × UsesTurns (Some lines) rest fault
-    × LeavesReplies None (From path) (Some lines) rest old new fault)
+Leaves From (ask path lines) input left old new fault =
+    (left ≡ input) × LeavesWords (From path) lines old new fault
 Leaves From (about path) input left old new fault = LeavesAbout (From path) old new
 Leaves From (audit kind path) input left old new fault =
     LeavesLevels (Some kind) (From path) old new

@@ -1,6 +1,6 @@
 //! The whole program, over the files of a system, a reader and two writers.
 ghost use Rattle.std.specs.Prelude.{◌≡◌, ℕ, ◌<◌, ◌≤◌, ◌⊎◌, List, ◌++◌, map, Option, Some, None, Ok, Err, IfOk};
-ghost use Rattle.std.specs.Prelude.{IfErr, OnOk, OnErr};
+ghost use Rattle.std.specs.Prelude.{IfErr, OnOk, OnErr, true};
 ghost use Rattle.std.specs.Io.KnownBytes.{Appends};
 ghost use Rattle.race_model.specs.BuiltFile.{IsBuilt};
 ghost use Rattle.db_layout.specs.declared.stated.Kind.TheVariants.{Database};
@@ -16,10 +16,11 @@ ghost use Rattle.command_line.specs.Asked.{Asked, Asks, IsAskedBy, asked_by, bui
 ghost use Rattle.certificate.specs.CheckFaults.{IsFirst};
 ghost use Rattle.certificate.specs.declared.check_fault.CheckFault.{CheckFault};
 ghost use Rattle.bearoff_cli.specs.Tellings.{IsExplainedFor, IsReasonOf, IsToldBy, IsWritten, MayTell};
-ghost use Rattle.bearoff_cli.specs.Faults.{UsesTurns, IsAnswerFault, IsBoundFault, IsCheckFault, IsFaultIn, IsOwnFault};
-ghost use Rattle.bearoff_cli.specs.Faults.{IsQueryFault, IsUpgradeFault};
-ghost use Rattle.bearoff_cli.specs.FileAnswers.{AreAnswered, AreAnsweredOver, AreAnsweredFrom, IsHandedTo, IsReadFrom};
-ghost use Rattle.bearoff_cli.specs.FileAnswers.{SaysAbout, SaysRight, SaysUpgraded, SaysLevels, about_text, count_line};
+ghost use Rattle.bearoff_cli.specs.Faults.{UsesTurns, IsAnswerFault, IsAskFault, IsBoundFault, IsCheckFault, IsFaultIn};
+ghost use Rattle.bearoff_cli.specs.Faults.{IsOwnFault, IsQueryFault, IsUpgradeFault};
+ghost use Rattle.bearoff_cli.specs.FileAnswers.{AnswersWords, AreAnswered, AreAnsweredOver, AreAnsweredFrom};
+ghost use Rattle.bearoff_cli.specs.FileAnswers.{IsHandedTo, IsReadFrom, SaysAbout, SaysRight, SaysUpgraded, SaysLevels};
+ghost use Rattle.bearoff_cli.specs.FileAnswers.{about_text, count_line};
 ghost use Rattle.whole_file.specs.Paths.{untold_paths};
 ghost use Rattle.whole_file.specs.Puts.{Puts};
 ghost use Rattle.bearoff_cli.specs.PutFiles.{LeavesBy, LeavesFor, LeavesInput, PutsFor};
@@ -29,7 +30,7 @@ ghost use Rattle.epc_query.specs.Kinds.{IsRightAs};
 ghost use Rattle.bearoff_cli.specs.Kinds.{IsBuiltOf, WritesBuiltOf, greatest};
 ghost use Rattle.bearoff_cli.specs.Requests.{EndsAs, EndsBy, IsDone};
 ghost use Rattle.bearoff_cli.specs.StoppedRuns.{AreStopped, IsAboutEnd, IsNothingOr, IsRefusalOf, IsUnreadEnd};
-ghost use Rattle.bearoff_cli.specs.StoppedRuns.{LeavesLevels, LeavesLine, LeavesReplies, SaysUpgradedPart};
+ghost use Rattle.bearoff_cli.specs.StoppedRuns.{LeavesLevels, LeavesLine, LeavesReplies, LeavesWords, SaysUpgradedPart};
 ghost use Rattle.bearoff_cli.specs.declared.act.Done.TheVariants.{Built};
 ghost use Rattle.bearoff_cli.specs.declared.act.ProgramFault.TheVariants.{Failed};
 ghost use Rattle.bearoff_cli.specs.declared.act.Report.TheVariants.{Count, Levels};
@@ -40,7 +41,7 @@ use crate::files::{
     write_flushed,
 };
 use crate::kinds::{
-    TURNS, accept, answer, greatest, handed_on, kind_of, stated_kind, write_levels,
+    TURNS, accept, answer, greatest, handed_on, has_answer, stated_kind, write_levels,
 };
 use crate::meaning::{Reason, shown, write_meaning};
 use arrayvec::ArrayString;
@@ -67,12 +68,12 @@ const DEFAULT_BOUND: u8 = 8;
 
 /// The whole program: does what the words (those after the program's own name) ask for, and gives
 /// the exit status. With no words, or `--` alone, it answers each line of the input over the
-/// database of 8 pips, which it builds. 0: done; 1: a file, the input, an output or memory failed;
-/// 2: the words are wrong, or the bound is over the greatest one; 3: the database was refused, or
-/// is to be upgraded and is no old one. At 1 and 3, and for a bound over the greatest one, one line
-/// is written to `errors`, and for `about` one more where its file failed; for words that are wrong
-/// it is the text of `clap`. At 2 and 3 nothing was written to `output`. (The words, the statuses
-/// and the lines are this project's profile.)
+/// database of 8 pips, which it builds. 0: done; 1: a file, the input, an output or memory failed,
+/// or no line of `ask` was answered; 2: the words are wrong, or the bound is over the greatest one;
+/// 3: the database was refused, or is to be upgraded and is no old one. At 1 and 3, and for a bound
+/// over the greatest one, one line is written to `errors`, and for `about` one more where its file
+/// failed; for words that are wrong it is the text of `clap`. At 2 and 3 nothing was written to
+/// `output`. (The words, the statuses and the lines are this project's profile.)
 pub fn act<R: Files, S: AsStr, I: Read, O: Write, E: Write>(
     rt: &R,
     alloc: Global,
@@ -351,15 +352,14 @@ fn fulfil<'a, D: Disk, I: Read, O: Write>(
             kind,
             path,
             cache: None,
-        } => refused(answer_file(disk, alloc, Some(kind), path, input, output)),
+        } => refused(answer_file(disk, alloc, kind, path, input, output)),
         Request::Query {
             path,
             cache: Some(records),
             ..
         } => refused(answer_pages(disk, alloc, path, records, input, output)),
         Request::Ask { path, lines } => {
-            let mut words = lines.as_str().as_bytes();
-            refused(answer_file(disk, alloc, None, path, &mut words, output))
+            refused(answer_words(disk, alloc, path, lines.as_str(), output))
         }
         Request::About { path } => about_file(disk, alloc, path, output),
         Request::Audit { kind, path } => {
@@ -393,13 +393,12 @@ fn answer_default<I: Read, O: Write>(
     answer_bytes(alloc, Kind::Database, bytes.as_slice(), input, output)
 }
 
-/// Answers each line of the input over a file, which is read whole, of a kind, or of that which its
-/// header states.
+/// Answers each line of the input over a file of a kind, which is read whole.
 #[inline(never)]
 fn answer_file<D: Disk, I: Read, O: Write>(
     disk: &mut D,
     alloc: Global,
-    kind: Option<Kind>,
+    kind: Kind,
     path: &str,
     input: &mut I,
     output: &mut O,
@@ -407,21 +406,55 @@ fn answer_file<D: Disk, I: Read, O: Write>(
     ensures refused { KeepsIfRefused result (O.contents output.old) (O.contents output.new) }
     ensures cause { IfErr result IsQueryFault }
     ensures turns { IfErr result (UsesTurns (I.remaining input.old) (I.remaining input.new)) }
-    ensures fault { IfErr result (λ fault. IsOwnFault kind (IsReadFrom D.Reader.remaining
+    ensures fault { IfErr result (λ fault. IsOwnFault (Some kind) (IsReadFrom D.Reader.remaining
         (D.paths disk.old) (D.told disk.old) path.now) fault) }
-    ensures left { IfErr result (LeavesReplies kind (IsReadFrom D.Reader.remaining
+    ensures left { IfErr result (LeavesReplies (Some kind) (IsReadFrom D.Reader.remaining
         (D.paths disk.old) (D.told disk.old) path.now)
         (I.remaining input.old) (I.remaining input.new)
         (O.contents output.old) (O.contents output.new)) }
     ensures answers { OnOk result (WhereTold (I.remaining input.old) (λ given.
-        AreAnsweredFrom kind (IsReadFrom D.Reader.remaining
+        AreAnsweredFrom (Some kind) (IsReadFrom D.Reader.remaining
         (D.paths disk.old) (D.told disk.old) path.now) given (I.remaining input.new)
         (O.contents output.old) (O.contents output.new))) }
     ensures stays { D.told disk.new ≡ D.told disk.old }
 {
     let file = read_file(disk, alloc, path)?;
+    answer_bytes(alloc, kind, file.as_slice(), input, output)
+}
+
+/// Answers each line of a text over a file, which is read whole, of the kind that its header
+/// states: `Unanswered` where each reply is a refusal.
+#[inline(never)]
+fn answer_words<D: Disk, O: Write>(
+    disk: &mut D,
+    alloc: Global,
+    path: &str,
+    lines: &str,
+    output: &mut O,
+) -> Result<(), Fault>
+    ensures refused { KeepsIfRefused result (O.contents output.old) (O.contents output.new) }
+    ensures cause { IfErr result IsAskFault }
+    ensures fault { IfErr result (IsOwnFault None (IsReadFrom D.Reader.remaining
+        (D.paths disk.old) (D.told disk.old) path.now)) }
+    ensures left { IfErr result (LeavesWords (IsReadFrom D.Reader.remaining
+        (D.paths disk.old) (D.told disk.old) path.now) lines.now
+        (O.contents output.old) (O.contents output.new)) }
+    ensures answers { OnOk result (AnswersWords true (IsReadFrom D.Reader.remaining
+        (D.paths disk.old) (D.told disk.old) path.now) lines.now
+        (O.contents output.old) (O.contents output.new)) }
+    ensures stays { D.told disk.new ≡ D.told disk.old }
+{
+    let file = read_file(disk, alloc, path)?;
     let bytes = file.as_slice();
-    answer_bytes(alloc, kind_of(kind, bytes), bytes, input, output)
+    let kind = stated_kind(bytes);
+    let kept = accept(kind, bytes)?;
+    let mut words = lines.as_bytes();
+    answer(kind, kept, alloc, bytes, &mut words, output)?;
+    if has_answer(kept.bound, lines) {
+        Ok(())
+    } else {
+        Err(Fault::Unanswered)
+    }
 }
 
 /// Answers each line of the input over the database in a file, of which at most so many records

@@ -54,11 +54,16 @@ pub enum Fault {
     /// The database that is to be upgraded is of version 2 already.
     #[error("not an old database")]
     NotOld,
+
+    /// No line of `ask` was answered.
+    #[error("no line was answered")]
+    Unanswered,
 }
 
 impl Fault {
-    /// The exit status: 1 for what failed outside the database, 2 for a bound that is too large,
-    /// 3 for a database that was refused, or that is no old one.
+    /// The exit status: 1 for what failed outside the database, and for lines of which none was
+    /// answered, 2 for a bound that is too large, 3 for a database that was refused, or that is no
+    /// old one.
     pub fn status(&self) -> u8
         ensures { result ≡ status_of self.now }
     {
@@ -170,6 +175,7 @@ fn word(fault: &Fault) -> ArrayString<80>
         Fault::Turns => text("turns"),
         Fault::OverBound => text("over-bound"),
         Fault::NotOld => text("not-old"),
+        Fault::Unanswered => text("unanswered (a LINE is one word: 'mean 0,0,0,0,0,1')"),
         Fault::Refused(refused) => {
             let mut word = text("refused ");
             word.push_str(fault_line(refused).as_str());
@@ -180,7 +186,7 @@ fn word(fault: &Fault) -> ArrayString<80>
 
 /// A text.
 fn text(text: &str) -> ArrayString<80>
-    requires { length text.now ≤ 16 }
+    requires { length text.now ≤ 64 }
     ensures { result.bytes ≡ text.now }
 {
     let mut word = ArrayString::new();

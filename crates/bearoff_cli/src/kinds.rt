@@ -1,19 +1,21 @@
 //! The two kinds of file that a command is given, a database and a board file, and what is done
 //! with the bytes of each.
 ghost use Rattle.std.specs.Prelude.{◌≡◌, ℕ, suc, ◌≤◌, List, Option, IfOk, IfErr, IsOk, OnOk, OnErr};
+ghost use Rattle.std.specs.List.{IsAnyAnswer};
 ghost use Rattle.ranking.specs.Tables.{IsRankTable};
 ghost use Rattle.db_reader.specs.Telling.{WhereTold};
 ghost use Rattle.certificate.specs.declared.check_fault.CheckFault.{CheckFault};
 ghost use Rattle.race_model.specs.Books.{Book};
 ghost use Rattle.race_model.specs.Files.{bound_of};
+ghost use Rattle.race_model.specs.InputLines.{lines_of};
 ghost use Rattle.epc_query.specs.Runs.{IsRunStopped};
 ghost use Rattle.epc_query.specs.UsedReads.{HasUsed};
 ghost use Rattle.bearoff_cli.specs.Causes.{of_check};
 ghost use Rattle.bearoff_cli.specs.declared.fault.Fault.TheVariants.{Write};
 ghost use Rattle.bearoff_cli.specs.Faults.{IsAnswerFault, IsFirstAs, UsesTurns};
-ghost use Rattle.bearoff_cli.specs.FileAnswers.{WritesLevel, WritesLevels, AreAnswered};
+ghost use Rattle.bearoff_cli.specs.FileAnswers.{IsAnsweredBy, WritesLevel, WritesLevels, AreAnswered};
 ghost use Rattle.epc_query.specs.Kinds.{IsAcceptedAs, IsRightAs, book_as};
-ghost use Rattle.bearoff_cli.specs.Kinds.{greatest, kind_as, stated_kind};
+ghost use Rattle.bearoff_cli.specs.Kinds.{greatest, stated_kind};
 ghost use Rattle.bearoff_cli.specs.StoppedRuns.{AreStopped, WritesLevelPart, WritesLevelsPart};
 
 use crate::fault::Fault;
@@ -25,7 +27,7 @@ use epc_query::{
     Accepted, Board, BoardText, Database, RunFault, Text, board_level, put_board_level, run_lines,
 };
 use home_board::MAX_BOUND;
-use query_text::write_line;
+use query_text::{accepted_query, write_line};
 use ranking::RankTable;
 use std::alloc::Global;
 use std::io::{Read, Write};
@@ -61,16 +63,6 @@ pub fn stated_kind(bytes: &[u8]) -> Kind
     match read_short(bytes, VERSION_PLACE) {
         BOARD_VERSION => Kind::Board,
         _ => Kind::Database,
-    }
-}
-
-/// The given kind, or that which the header of a file states.
-pub fn kind_of(given: Option<Kind>, bytes: &[u8]) -> Kind
-    ensures { result ≡ kind_as given bytes.now }
-{
-    match given {
-        Some(kind) => kind,
-        None => stated_kind(bytes),
     }
 }
 
@@ -121,6 +113,20 @@ pub fn answer<I: Read, O: Write>(
         Ok(_) => Ok(()),
         Err(cause) => Err(Fault::from(handed_on(cause, output))),
     }
+}
+
+/// Whether a file of a bound answers some of the lines of a text, and so refuses not each of them.
+pub fn has_answer(bound: u8, lines: &str) -> bool
+    ensures { IsAnyAnswer (IsAnsweredBy bound) (lines_of lines.now) result }
+{
+    lines.lines().any(|line| is_answered(bound, line))
+}
+
+/// Whether it answers a line.
+fn is_answered(bound: u8, line: &str) -> bool
+    ensures { IsAnsweredBy bound line.now result }
+{
+    accepted_query(line.as_bytes(), bound).is_ok()
 }
 
 /// Answers each line of the input over bytes that were accepted, as far as `run_lines` does.

@@ -1,13 +1,13 @@
 -- What is done for a request is what its function did, and what it failed by is told.
-use Rattle.std.proofs.Common.{◌≡◌, ◌∙◌, None, Some, refl, rules}
+use Rattle.std.proofs.Common.{◌≡◌, None, Some, refl, rules}
 use Rattle.command_line.specs.Asked.{asked_by, default, build, check, query, ask, audit, upgrade}
 use Rattle.bearoff_cli.specs.FileAnswers.{IsReadFrom}
 use Rattle.bearoff_cli.specs.Faults.{IsBoundFault, IsCheckFault, IsUpgradeFault}
 use Rattle.bearoff_cli.specs.Kinds.{greatest}
 use Rattle.bearoff_cli.proofs.Explained.{about_refusal}
-use Rattle.bearoff_cli.proofs.OpenedFiles.{all_ok, words_answered}
+use Rattle.bearoff_cli.proofs.OpenedFiles.{all_ok}
 use Rattle.bearoff_cli.proofs.Requests.{told_done, told_left}
-use Rattle.bearoff_cli.proofs.StoppedRuns.{words_stopped}
+use Rattle.bearoff_cli.proofs.StoppedRuns.{beside_words}
 use Rattle.bearoff_cli.proofs.ToldFaults.{any_fault, done_if, ended_refusal, no_turns, no_turns_built}
 use Rattle.bearoff_cli.proofs.act.fulfil.Goals as goal
 
@@ -150,12 +150,8 @@ returns-in-Query-default-default-Some-clause-fault g c =
 
 pub returns-in-Ask-clause-done : goal.returns-in-Ask-clause-done
 returns-in-Ask-clause-done g c =
-    let from = (IsReadFrom g.D.Reader.Read.remaining
-    (g.D.Disk.paths c.args.disk.now) (g.D.Disk.told c.args.disk.now)) c.in-Ask.path.now in
-    let lines = c.as_bytes-words.ensures.value ∙ c.as_str.ensures.value in
-    rw c.in-Ask.is (done_if c.answer_file-in-Ask.result c.refused-in-Ask.result
-    (words_answered from _ _ _ _ c.answer_file-in-Ask.result
-    (rw lines at c.answer_file-in-Ask.ensures.answers)) (λ answered. (refl, answered))
+    rw c.in-Ask.is (done_if c.answer_words.result c.refused-in-Ask.result
+    (rw c.as_str.ensures.value at c.answer_words.ensures.answers) (λ answered. (refl, answered))
     c.refused-in-Ask.ensures.fault)
 
 pub returns-in-Ask-clause-fault : goal.returns-in-Ask-clause-fault
@@ -163,12 +159,11 @@ returns-in-Ask-clause-fault g c =
     let from = (IsReadFrom g.D.Reader.Read.remaining
     (g.D.Disk.paths c.args.disk.now) (g.D.Disk.told c.args.disk.now)) in
     let input = g.I.Read.remaining c.args.input.now in
-    let lines = c.as_bytes-words.ensures.value ∙ c.as_str.ensures.value in
-    let it = c.answer_file-in-Ask.ensures in
+    let it = c.answer_words.ensures in
     rw c.in-Ask.is (ended_refusal from (ask c.in-Ask.path.now _) (λ fault. tt) input input _ _
-    c.answer_file-in-Ask.result c.refused-in-Ask.result it.cause it.fault
-    (any_fault c.answer_file-in-Ask.result) (words_stopped from c.in-Ask.path.now _ input _ _ _
-    c.answer_file-in-Ask.result (rw lines at it.turns) (rw lines at it.left))
+    c.answer_words.result c.refused-in-Ask.result it.cause it.fault
+    (any_fault c.answer_words.result) (beside_words input _ c.answer_words.result
+    (rw c.as_str.ensures.value at it.left))
     c.refused-in-Ask.ensures.done c.refused-in-Ask.ensures.fault)
 
 pub returns-in-Default-clause-leaves : goal.returns-in-Default-clause-leaves
@@ -190,7 +185,7 @@ pub returns-in-Check-clause-unread : goal.returns-in-Check-clause-unread
 returns-in-Check-clause-unread g c = rw c.in-Check.is refl
 
 pub returns-in-Ask-clause-leaves : goal.returns-in-Ask-clause-leaves
-returns-in-Ask-clause-leaves g c = rw c.in-Ask.is c.answer_file-in-Ask.ensures.stays
+returns-in-Ask-clause-leaves g c = rw c.in-Ask.is c.answer_words.ensures.stays
 
 pub returns-in-Ask-clause-unread : goal.returns-in-Ask-clause-unread
 returns-in-Ask-clause-unread g c = rw c.in-Ask.is refl
