@@ -55,7 +55,7 @@ answer | epc_query/src/answers.rt | @let Some(()) = answer(self, line, text) els
 mean | certificate/src/checked.rt | let Some(mean) = mean_in(&self.table.lend(rank, &room)) else {\n@
 shares | certificate/src/checked.rt | let Some(spread) = spread_in(&self.table.lend(rank, &room)) else {\n@
 tell | bearoff_cli/src/act.rt | @tell(alloc, perform(disk, alloc, words, input, output), errors)
-words | bearoff_cli/src/act.rt | @let mut words = lines.as_str().as_bytes();
+words | bearoff_cli/src/act.rt | @let mut words = lines.as_bytes();
 line | command_line/src/words.rt | @text.push_str(line)?;
 read | bearoff_cli/src/files.rt | @if read.is_empty() {
 board | bearoff_cli/src/files.rt | @Ok(vec![in alloc; 0; size]?)
@@ -97,7 +97,7 @@ lines_of_37_bytes_fail | answer | line.len() == 37 | Err(RunFault::Table) | rows
 a_mean_that_cannot_be_is_none | mean | let Some(none) = Scaled::new(0) | Ok(none) | rows TestChanges
 shares_that_cannot_be_are_those_of_no_roll | shares | rank < 60_000 | Ok(Spread::finished()) | rows TestChanges
 the_program_always_wants_memory | tell | words.len() < 9 | Told { status: 1, line: Err(WriteFault) } | BUILDS
-words_want_memory_where_there_are_three | words | lines.len() > 40 | refused(Err(Fault::Memory)) | rows TestAsk
+words_want_memory_where_there_are_three | words | lines.len() > 40 | Err(Fault::Memory) | rows TestAsk::test_words
 words_want_memory_over_100000_bytes | line | text.len() > 100_000 | Err(AllocError) | rows TestAsk::test_words
 the_program_gives_up_over_30000_bytes | read | bytes.len() > 30_000 | Err(Unread::Memory) | bearoff_cli check BUILT
 the_whole_board_always_wants_memory | board | size > 0 | Err(Fault::Memory) | rows TestBoards::test_build

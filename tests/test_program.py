@@ -8,6 +8,7 @@ import hashlib
 import os
 import re
 import resource
+import shlex
 import shutil
 import subprocess
 import sys
@@ -100,6 +101,7 @@ class TestCommands:
                 ("", "audit three", "", AUDIT),
                 ("", "upgrade eight made", "", "upgraded pips 8 positions 64"),
                 ("query of an upgrade", "query new", THREE, REPLIES),
+                ("query of what is refused", "query eight", "help", "error bad-line"),
             )
         ],
     )
@@ -293,7 +295,7 @@ class TestCommands:
         --version|bearoff 1.0.0
         --help|Usage: bearoff [COMMAND]
         --help|Examples:
-        --help|Exit status: 0 done; 1 a file, the input, the output or memory failed; 2 the words are
+        --help|Exit status: 0 done; 1 a file, the input, the output or memory failed, or `ask` answered no
         help build|Usage: bearoff build --pips <N> <FILE>
         help build|The greatest pip count of the database, 0 to 58
         help build|Exit status: 0 the file was written; 1 it, the output or memory failed (FILE is the
@@ -301,6 +303,7 @@ class TestCommands:
         query -h|Usage: bearoff query [OPTIONS] <FILE>
         ask --help|Usage: bearoff ask <FILE> <LINE>...
         ask --help|A line as `query` reads it, in quotes: 'mean 0,0,0,0,0,1'
+        ask --help|Exit status: 0 a LINE was answered, and each has its reply; 1 none was, or FILE, the output or
         help about|Usage: bearoff about <FILE>
         help about|Exit status: 0 FILE was accepted; 1 it, the output or memory failed; 2 the words are wrong;
         audit --help|Usage: bearoff audit [OPTIONS] <FILE>
@@ -365,8 +368,9 @@ class TestClosedStreams:
 
     WORDS = cells(
         """| --help | build --pips 3 made | check three | query three | query --cache 2 three
-        ask three help | audit three | upgrade three made | build --board made
-        check --board board | query --board board | ask board help | audit --board board"""
+        ask three 'rank 1,0,0,0,0,0' | audit three | upgrade three made | build --board made
+        check --board board | query --board board | ask board 'rank 1,0,0,0,0,0'
+        audit --board board"""
     )
     every_way = pytest.mark.parametrize("closed", ["0", "1", "2", "01", "02", "12", "012"])
 
@@ -374,6 +378,7 @@ class TestClosedStreams:
     @pytest.mark.parametrize("words", WORDS)
     def test_streams(self, files, ask, board, words, closed):
         shutil.copy(board(8), "board")
+        words = shlex.split(words)
         ample = ask(words, THREE)
         expect_that(ample.status == 0, ample, "status 0")
         whole = None
@@ -381,7 +386,7 @@ class TestClosedStreams:
             whole = Path("made").read_bytes()
             os.remove("made")
         error = "bearoff: write" if "1" in closed else ""
-        if "0" in closed and (words == "" or words.startswith("query")):
+        if "0" in closed and words[:1] in ([], ["query"]):
             error = "bearoff: read"
 
         def close():
@@ -935,33 +940,48 @@ class TestAsk:
     """Lines that are words, over each kind of file."""
 
     LINES = THREE.split("\n")[:-1]
+    HINT = "bearoff: unanswered (a LINE is one word: 'mean 0,0,0,0,0,1')"
 
     @pytest.mark.parametrize("file", ["eight", "new", "board"])
     def test_files(self, files, ask, board, file):
         shutil.copy(board(8), "board")
         expect(ask(["ask", file, *self.LINES]), 0, REPLIES)
+        expect(ask(["ask", file, "help", "rank 1,0,0,0,0,0"]), 0, "error bad-line\nrank 1")
 
     @pytest.mark.parametrize(
         "words, output",
         [
             (["mean 1,0,0,0,0,0"], "mean 1/1 epc 49/6 8.167"),
             (["rank 0,0,0,0,0,0", "help", "rank 1,0,0,0,0,0"], "rank 0\nerror bad-line\nrank 1"),
-            ([""], "error bad-line"),
             (["", "rank 1,0,0,0,0,0", ""], "error bad-line\nrank 1\nerror bad-line"),
-            (["rank", "1,0,0,0,0,0"], "error bad-line\nerror bad-line"),
-            ([" rank 1,0,0,0,0,0"], "error bad-line"),
             (["rank 1,0,0,0,0,0\r"], "rank 1"),
             (["rank 1,0,0,0,0,0\nrank 0,1,0,0,0,0"], "rank 1\nrank 2"),
             (["rank 1,0,0,0,0,0\n"], "rank 1\nerror bad-line"),
-            (["rank 0,0,0,0,0,9", "rank 16,0,0,0,0,0"], "error over-bound\nerror too-many"),
             (["\u00e9" * 200, "rank 1,0,0,0,0,0"], "error bad-line\nrank 1"),
             (["rank 1,0,0,0,0,0"] * 5000, "rank 1\n" * 4999 + "rank 1"),
             (["\u00e9" * 60000] * 6 + ["rank 1,0,0,0,0,0"], "error bad-line\n" * 6 + "rank 1"),
-            (["--", "-x", "--help", "--"], "error bad-line\nerror bad-line\nerror bad-line"),
         ],
     )
     def test_words(self, files, ask, words, output):
         expect(ask(["ask", "eight", *words], THREE), 0, output)
+
+    @pytest.mark.parametrize("file", ["eight", "board"])
+    @pytest.mark.parametrize(
+        "words, output",
+        [
+            ([""], "error bad-line"),
+            (["rank", "1,0,0,0,0,0"], "error bad-line\nerror bad-line"),
+            ([" rank 1,0,0,0,0,0"], "error bad-line"),
+            (["rank 1,0,0,0,0,0\r\r"], "error bad-line"),
+            (["rank 0,0,0,0,0,9", "rank 16,0,0,0,0,0"], "error over-bound\nerror too-many"),
+            (["play 0,0,0,0,0,0 21"], "error finished"),
+            (["loss 1,0,0,0,0,0 21 1,0,0,0,0,0"], "error not-legal"),
+            (["--", "-x", "--help", "--"], "error bad-line\nerror bad-line\nerror bad-line"),
+        ],
+    )
+    def test_no_answer(self, files, ask, board, file, words, output):
+        shutil.copy(board(8), "board")
+        expect(ask(["ask", file, *words], THREE), 1, output, self.HINT)
 
     def test_words_behind_dashes(self, files, ask):
         shutil.copy("eight", "-x")

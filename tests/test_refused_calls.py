@@ -11,6 +11,7 @@ and the root folder can't be opened to stand in for it, nothing else is opened."
 import errno
 import os
 import re
+import shlex
 import shutil
 import subprocess
 from pathlib import Path
@@ -82,7 +83,7 @@ COMMANDS = {
         "query --cache 2 eight",
         ["growth", "seek", *OPENED, *LOADED, *GIVEN, *TOLD],
     ),
-    "ask": ("ask eight help", ["growth", *OPENED, *LOADED, *TOLD]),
+    "ask": ("ask eight 'rank 1,0,0,0,0,0'", ["growth", *OPENED, *LOADED, *TOLD]),
     "about": ("about eight", ["growth", *OPENED, *LOADED, *TOLD]),
     "audit": ("audit eight", ["growth", *OPENED, *LOADED, *TOLD]),
     "upgrade": ("upgrade eight made", ["growth", *OPENED, *LOADED, *STORED, *TOLD]),
@@ -169,7 +170,7 @@ def came(name, which, got):
     "name, kind", [(name, kind) for name, (_, kinds) in COMMANDS.items() for kind in kinds]
 )
 def test_program(program, refusing, note, name, kind):
-    words = COMMANDS[name][0].split()
+    words = shlex.split(COMMANDS[name][0])
     command = [program, *words]
     ample, calls = refusing(command, kind + ":0")
     whole, harmless, wrong = made(), 0, []
@@ -253,7 +254,7 @@ def test_closed_streams_that_nothing_can_stand_in_for(program, refusing, board, 
     for words in [*(words for words, _ in COMMANDS.values()), "--version", *boards]:
         for which in range(1, len(closed) + 1):
             got, calls = refusing(
-                [program, *words.split()],
+                [program, *shlex.split(words)],
                 f"closed-open:{which}",
                 more=more,
                 preexec_fn=close,

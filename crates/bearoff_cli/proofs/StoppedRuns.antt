@@ -1,5 +1,5 @@
 -- What stands in the output where a command failed, from what its parts wrote.
-use Rattle.std.proofs.Common.{◌≡◌, ℕ, suc, ◌≤◌, ◌⊎◌, inl, inr, List, ◌∷◌, [], ◌++◌, take, Option, None, Some, Result}
+use Rattle.std.proofs.Common.{◌≡◌, ℕ, suc, ◌≤◌, ◌⊎◌, inl, inr, List, ◌∷◌, [], ◌++◌, take, Option, Some, Result}
 use Rattle.std.proofs.Common.{Ok, Err, IfErr, refl, ap, subst, ◌∙◌, arith}
 use Rattle.std.specs.Prelude.{OnErr}
 use Rattle.std.specs.Io.KnownBytes.{Keeps}
@@ -98,14 +98,17 @@ pub words_stopped : (From : List ℕ → Type 0) (kind : Kind) (file words given
     → WhereTold (Some words) (λ text. AreStopped kind file text rest old new fault)
     → LeavesWords From given old new fault
 words_stopped From kind file words given rest old new fault read stated same cause turns stops =
-    inr (query_of_answer fault cause, (
-      rest,
-      subst (λ text. UsesTurns (Some text) rest fault) same turns,
-      λ text told.
-          let it = subst (λ kind. AreStopped kind file text rest old new fault) stated
-          (stops text (ap Some same ∙ told)) in
-          inr (file, read, it.right, it),
-    ))
+    inr (
+      query_of_answer fault cause,
+      (
+        rest,
+        subst (λ text. UsesTurns (Some text) rest fault) same turns,
+        λ text told.
+            let it = subst (λ kind. AreStopped kind file text rest old new fault) stated
+            (stops text (ap Some same ∙ told)) in
+            inr (file, read, it.right, it),
+      ),
+    )
 
 -- .. and the input is left alone
 pub beside_words : {A : Type 0} (input : Option (List ℕ)) (Left : Fault → Type 0)

@@ -98,8 +98,9 @@ Lines (a position is six counts, that of the ace point first; a roll is two digi
   moves 0,0,0,2,0,0 21    every play of a roll with its loss
   rank 0,0,0,2,0,0        the place of a position in the database
 
-Exit status: 0 done; 1 a file, the input, the output or memory failed; 2 the words are wrong
-or N is over the greatest bound; 3 the database was refused, or is no old one to upgrade.";
+Exit status: 0 done; 1 a file, the input, the output or memory failed, or `ask` answered no
+LINE; 2 the words are wrong or N is over the greatest bound; 3 the database was refused, or is
+no old one to upgrade.";
 
 const FILE_HELP: &str = "A file from `bearoff build` or from anybody else";
 
@@ -111,8 +112,8 @@ are wrong; 3 the file was refused, and standard error says why. A board file is 
 `header bad-version` where `--board` is missing, and a database where it stands.";
 
 const ASK_STATUSES: &str =
-    "Exit status: 0 each LINE has its reply, which may be an error of the line; 1 FILE, the output
-or memory failed; 2 the words are wrong; 3 FILE was refused, and standard error says why.";
+    "Exit status: 0 a LINE was answered, and each has its reply; 1 none was, or FILE, the output or
+memory failed; 2 the words are wrong; 3 FILE was refused, and standard error says why.";
 
 const BUILD_STATUSES: &str =
     "Exit status: 0 the file was written; 1 it, the output or memory failed (FILE is the old file,
