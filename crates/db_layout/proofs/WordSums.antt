@@ -1,9 +1,9 @@
 -- Words of the counts of accepted records, and their sums over the rolls.
 use Rattle.std.proofs.Common.{◌≡◌, ◌⊎◌, ⊎_elim, ℕ, zero, suc, cond, ◌+◌, ◌-◌, ◌*◌, ◌/◌, ◌^◌, ◌<◌, ◌≤◌}
-use Rattle.std.proofs.Common.{List, refl, subst, sym, ap, ap₂, ◌∙◌, arith}
+use Rattle.std.proofs.Common.{◌∷◌, [], eq-eqb, List, length, refl, subst, sym, ap, ap₂, ◌∙◌, arith}
 use Rattle.std.specs.Int.{w64, from_be_bytes}
 use Rattle.std.proofs.Math.Nat.{pow-le-pow_right}
-use Rattle.std.proofs.lemmas.Bool.{le-leb, lt-leb}
+use Rattle.std.proofs.lemmas.Bool.{le-leb, lt-leb, ne_eqb}
 use Rattle.race_model.specs.Positions.{pips}
 use Rattle.race_model.specs.Dice.{roll_index, weighted}
 use Rattle.race_model.specs.Horizon.{most_rolls}
@@ -12,15 +12,38 @@ use Rattle.race_model.specs.Files.{bytes_at}
 use Rattle.race_model.specs.BoardFiles.{Parts, board_length, board_record, count_place, count_parts, count_at}
 use Rattle.db_layout.proofs.SameFronts.{count-middle}
 use Rattle.db_layout.specs.LowerRecords.{AreLocalTo}
-use Rattle.db_layout.specs.BoardWords.{word_at, words_length}
+use Rattle.db_layout.specs.BoardWords.{word_at, word_of, words_length}
 use Rattle.db_layout.proofs.ByteParts.{bytes_at-inner}
-use Rattle.db_layout.proofs.KnownRecords.{count-most, count-written}
+use Rattle.db_layout.proofs.KnownRecords.{count-most, count-written, told-at_end, told-at_once}
 use Rattle.db_layout.proofs.KnownRecords.{most_rolls-none, told-beyond, told-short, told-within}
 use Rattle.db_layout.proofs.Weighted.{weighted-by_index, weighted-parts}
 
 -- one of two orders
 split : (a b : ℕ) → (a ≤ b) ⊎ (b < a)
 split a b = grind arith
+
+-- a word that stands in some bytes, and none beyond them
+pub word_of-inside : (ws : List ℕ) (i : ℕ) → 8 * i + 8 ≤ length ws →
+    word_of ws (suc i) ≡ from_be_bytes w64 (bytes_at ws (8 * i) 8)
+unfolding word_of
+word_of-inside ws i within =
+    ap (λ b. cond b (from_be_bytes w64 (bytes_at ws (8 * i) 8)) 0)
+    (le-leb (8 * i + 8) (length ws) within)
+
+pub word_of-beyond : (ws : List ℕ) (i : ℕ) → length ws < 8 * i + 8 → word_of ws (suc i) ≡ 0
+unfolding word_of
+word_of-beyond ws i beyond =
+    ap (λ b. cond b (from_be_bytes w64 (bytes_at ws (8 * i) 8)) 0)
+    (lt-leb (8 * i + 8) (length ws) beyond)
+
+-- that of no throw
+word_of-none : (ws : List ℕ) → length ws ≡ 0 → word_of ws 0 ≡ 1
+unfolding word_of
+word_of-none ws none = ap (λ b. cond b 1 0) (eq-eqb (length ws) 0 none)
+
+word_of-some : (ws : List ℕ) → ¬ (length ws ≡ 0) → word_of ws 0 ≡ 0
+unfolding word_of
+word_of-some ws some = ap (λ b. cond b 1 0) (ne_eqb (length ws) 0 some)
 
 module _ (f : List ℕ) (r : ℕ) where
   -- a word of the record
@@ -102,7 +125,7 @@ module _ (f : List ℕ) (r : ℕ) where
         (split (12 + j) (most_rolls (pips (at_rank r))))
 
   -- the words that stand in the bytes of the counts, and none beyond them
-  pub word-of_bytes : (ws : List ℕ) →
+  word-of_bytes : (ws : List ℕ) →
       ws ≡ bytes_at (board_record f r) 66 (words_length (board_length (pips (at_rank r)))) →
       (i : ℕ) → 8 * i + 8 ≤ words_length (board_length (pips (at_rank r))) →
       from_be_bytes w64 (bytes_at ws (8 * i) 8) ≡ word_at f r (suc i)
@@ -113,17 +136,42 @@ module _ (f : List ℕ) (r : ℕ) where
       (8 * i) 8 within)
       ∙ sym (word-within i (omega (arith, within)))
 
-  pub word-past : (i : ℕ) → i < 33 → words_length (board_length (pips (at_rank r))) < 8 * i + 8 →
+  word-past : (i : ℕ) → i < 33 → words_length (board_length (pips (at_rank r))) < 8 * i + 8 →
       word_at f r (suc i) ≡ 0
   word-past i lt beyond = word-beyond i (omega (arith, lt, beyond))
 
   -- .. of which there are some where the position needs a roll
-  pub words-none : words_length (board_length (pips (at_rank r))) ≡ 0 → pips (at_rank r) ≡ 0
+  words-none : words_length (board_length (pips (at_rank r))) ≡ 0 → pips (at_rank r) ≡ 0
   words-none none = most_rolls-none (pips (at_rank r)) (omega (arith, none))
 
-  pub words-some : ¬ (words_length (board_length (pips (at_rank r))) ≡ 0) →
+  words-some : ¬ (words_length (board_length (pips (at_rank r))) ≡ 0) →
       ¬ (pips (at_rank r) ≡ 0)
   words-some some end = some (ap (λ p. words_length (board_length p)) end)
+
+  -- the words in the bytes of the counts are those of the record
+  pub word_of-record : (ws : List ℕ) →
+      ws ≡ bytes_at (board_record f r) 66 (words_length (board_length (pips (at_rank r)))) →
+      length ws ≡ words_length (board_length (pips (at_rank r))) →
+      (i : ℕ) → i < 34 → word_of ws i ≡ word_at f r i
+  word_of-record ws are long zero lt = ⊎_elim
+      (λ none.
+      word_of-none ws none
+      ∙ sym (word-short 0 (omega arith) ∙ told-at_end f r (words-none (sym long ∙ none))))
+      (λ some.
+      word_of-some ws some
+      ∙ sym (word-short 0 (omega arith)
+      ∙ told-at_once f r (words-some (λ none. some (long ∙ none)))))
+      (empty (length ws))
+    where
+      empty : (n : ℕ) → (n ≡ 0) ⊎ (¬ (n ≡ 0))
+      empty n = grind arith
+  word_of-record ws are long (suc i) lt = ⊎_elim
+      (λ within.
+      word_of-inside ws i within ∙ word-of_bytes ws are i (omega (arith, within, long)))
+      (λ beyond.
+      word_of-beyond ws i beyond
+      ∙ sym (word-past i (omega (arith, lt)) (omega (arith, beyond, long))))
+      (split (8 * i + 8) (length ws))
 
 -- of an accepted record each word is at most 36 ^ 11
 module _ (f : List ℕ) (n : ℕ) (few : n ≤ 54264) (local : AreLocalTo f n) (r : ℕ) (lt : r < n) where
@@ -203,3 +251,16 @@ module _ (f : List ℕ) (plays : ℕ → ℕ) where
 
       second : (k : ℕ) → 11 < k → 2 * k - 11 ≡ suc (12 + 2 * (k - 12))
       second k many = omega (arith, many)
+
+-- words of six records, added up: five of them twice, and the last one once
+abbrev pub words_of_six : List ℕ → List ℕ → List ℕ → List ℕ → List ℕ → List ℕ → ℕ → ℕ
+words_of_six a b c d e f i =
+    2 * (word_of a i + word_of b i + word_of c i + word_of d i + word_of e i) + word_of f i
+
+-- the groups of rolls whose words are added up at once
+abbrev pub groups : List (List ℕ)
+groups =
+    (1 ∷ 3 ∷ 4 ∷ 6 ∷ 7 ∷ 0 ∷ [])
+    ∷ (8 ∷ 10 ∷ 11 ∷ 12 ∷ 15 ∷ 2 ∷ [])
+    ∷ (13 ∷ 16 ∷ 17 ∷ 18 ∷ 19 ∷ 5 ∷ [])
+    ∷ []
