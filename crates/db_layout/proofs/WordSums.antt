@@ -1,6 +1,7 @@
 -- Words of the counts of accepted records, and their sums over the rolls.
 use Rattle.std.proofs.Common.{◌≡◌, ◌⊎◌, ⊎_elim, ℕ, zero, suc, cond, ◌+◌, ◌-◌, ◌*◌, ◌/◌, ◌^◌, ◌<◌, ◌≤◌}
 use Rattle.std.proofs.Common.{◌∷◌, [], eq-eqb, List, length, refl, subst, sym, ap, ap₂, ◌∙◌, arith}
+use Rattle.std.specs.Prelude.{min}
 use Rattle.std.specs.Int.{w64, from_be_bytes}
 use Rattle.std.proofs.Math.Nat.{pow-le-pow_right}
 use Rattle.std.proofs.lemmas.Bool.{le-leb, lt-leb, ne_eqb}
@@ -12,11 +13,15 @@ use Rattle.race_model.specs.Files.{bytes_at}
 use Rattle.race_model.specs.BoardFiles.{Parts, board_length, board_record, count_place, count_parts, count_at}
 use Rattle.db_layout.proofs.SameFronts.{count-middle}
 use Rattle.db_layout.specs.LowerRecords.{AreLocalTo}
-use Rattle.db_layout.specs.BoardWords.{word_at, word_of, words_length}
+use Rattle.db_layout.specs.BoardWords.{word_at, word_of}
 use Rattle.db_layout.proofs.ByteParts.{bytes_at-inner}
 use Rattle.db_layout.proofs.KnownRecords.{count-most, count-written, told-at_end, told-at_once}
 use Rattle.db_layout.proofs.KnownRecords.{most_rolls-none, told-beyond, told-short, told-within}
 use Rattle.db_layout.proofs.Weighted.{weighted-by_index, weighted-parts}
+
+-- how many bytes the counts of 1 to 22 throws have in a record of so many
+abbrev pub words_length : ℕ → ℕ
+words_length length = min length 330 - 66
 
 -- one of two orders
 split : (a b : ℕ) → (a ≤ b) ⊎ (b < a)

@@ -1,5 +1,5 @@
 -- The counts of a record as words of 64 bits. Source: this project's profile.
-use Rattle.std.specs.Prelude.{◌≡◌, ℕ, zero, suc, ◌+◌, ◌-◌, ◌*◌, ◌<◌, min, nat_le, ◌==◌, if◌then◌else◌}
+use Rattle.std.specs.Prelude.{◌≡◌, ℕ, zero, suc, ◌+◌, ◌*◌, ◌<◌, nat_le, ◌==◌, if◌then◌else◌}
 use Rattle.std.specs.Prelude.{List, length, slice_index}
 use Rattle.std.specs.Int.{w64, from_be_bytes}
 use Rattle.race_model.specs.Positions.{pips}
@@ -26,10 +26,6 @@ word_of bytes (suc i) =
 -- six numbers, added up: five of them twice, and the last one once
 abbrev pub six : (ℕ → ℕ) → ℕ
 six g = 2 * (g 0 + g 1 + g 2 + g 3 + g 4) + g 5
-
--- how many bytes the counts of 1 to 22 throws have in a record of so many
-abbrev pub words_length : ℕ → ℕ
-words_length length = min length 330 - 66
 
 -- the sums of the words of what 21 plays lead to, with the weights of the rolls
 abbrev pub AreWordSums : List ℕ → (ℕ → ℕ) → List ℕ → Type 0

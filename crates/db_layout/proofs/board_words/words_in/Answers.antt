@@ -5,8 +5,8 @@ use Rattle.race_model.specs.Positions.{pips}
 use Rattle.race_model.specs.Ranks.{at_rank}
 use Rattle.race_model.specs.Files.{bytes_at}
 use Rattle.race_model.specs.BoardFiles.{board_length}
-use Rattle.db_layout.specs.BoardWords.{word_at, word_of, words_length}
-use Rattle.db_layout.proofs.WordSums.{word-small, word_of-record}
+use Rattle.db_layout.specs.BoardWords.{word_at, word_of}
+use Rattle.db_layout.proofs.WordSums.{word-small, word_of-record, words_length}
 use Rattle.db_layout.proofs.board_words.words_in.Goals as goal
 
 -- each word is that of the record
