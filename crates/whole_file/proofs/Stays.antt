@@ -73,6 +73,11 @@ pub stays_same : (place : ℕ × List ℕ) (old new : Option (List Moment)) → 
 stays_same place old new same now past is =
     record { since = []; told_is = same ∙ is; each = tt }
 
+-- one moment came
+goes_once : (Each : Moment → Type 0) (start : List Moment) (told : Option (List Moment))
+    (next : Moment) → told ≡ Some (next ∷ start) → Each next → Goes Each start told
+goes_once Each start told next is so = record { since = next ∷ []; told_is = is; each = (so, tt) }
+
 -- a file was taken away somewhere else, or not
 pub stays_gone : (other place : ℕ × List ℕ) (old new : Option (List Moment)) → other ≢ place
     → RemovesOrStays other old new → StaysAt place old new
@@ -80,18 +85,11 @@ stays_gone other place old new apart (inr same) now past is =
     record { since = []; told_is = same ∙ is; each = tt }
 stays_gone other place old new apart (inl steps) now past is =
     let step = steps now past is in
-    record {
-      since = step.0 ∷ [];
-      told_is = step.1;
-      each = (
-        record {
-          at = step.2.others place (λ e. apart (sym e));
-          crash = λ e may. ⊎_elim (λ before. before) (λ gone. absurd (apart (sym gone.0)))
-              (step.2.crash place e may);
-          sure = λ file _. ap (λ s. s file) step.2.sure;
-        },
-        tt,
-      );
+    goes_once _ _ _ _ step.1 record {
+      at = step.2.others place (λ e. apart (sym e));
+      crash = λ e may. ⊎_elim (λ before. before) (λ gone. absurd (apart (sym gone.0)))
+          (step.2.crash place e may);
+      sure = λ file _. ap (λ s. s file) step.2.sure;
     }
 
 -- a file got another name, at two other places
@@ -99,19 +97,12 @@ pub stays_renamed : (from to place : ℕ × List ℕ) (old new : Option (List Mo
     → place ≢ to → Steps (Renames from to) old new → StaysAt place old new
 stays_renamed from to place old new not_from not_to steps now past is =
     let step = steps now past is in
-    record {
-      since = step.0 ∷ [];
-      told_is = step.1;
-      each = (
-        record {
-          at = step.2.others place not_from not_to;
-          crash = λ e may. ⊎_elim (λ before. before)
-              (⊎_elim (λ moved. absurd (not_to moved.0)) (λ gone. absurd (not_from gone.0)))
-              (step.2.crash place e may);
-          sure = λ file _. ap (λ s. s file) step.2.sure;
-        },
-        tt,
-      );
+    goes_once _ _ _ _ step.1 record {
+      at = step.2.others place not_from not_to;
+      crash = λ e may. ⊎_elim (λ before. before)
+          (⊎_elim (λ moved. absurd (not_to moved.0)) (λ gone. absurd (not_from gone.0)))
+          (step.2.crash place e may);
+      sure = λ file _. ap (λ s. s file) step.2.sure;
     }
 
 -- the names of a folder were made sure of, or not
@@ -121,17 +112,10 @@ pub stays_named : (paths : Paths) (folder : ℕ) (place : ℕ × List ℕ)
 stays_named paths folder place old new false answer = stays_same place old new answer.1
 stays_named paths folder place old new true answer = λ now past is.
     let step = answer now past is in
-    record {
-      since = step.0 ∷ [];
-      told_is = step.1;
-      each = (
-        record {
-          at = ap (λ at. at place) step.2.at;
-          crash = λ e may. step.2.crash place e may;
-          sure = λ file _. ap (λ s. s file) step.2.sure;
-        },
-        tt,
-      );
+    goes_once _ _ _ _ step.1 record {
+      at = ap (λ at. at place) step.2.at;
+      crash = λ e may. step.2.crash place e may;
+      sure = λ file _. ap (λ s. s file) step.2.sure;
     }
 
 -- the bytes of a file were made sure of that no crash leaves at a place
@@ -142,18 +126,11 @@ pub goes_settled : (from place : ℕ × List ℕ) (bytes : List ℕ) (now : Mome
     → Goes (IsSameAt place now) (now ∷ past) new
 goes_settled from place bytes now past old new own is steps =
     let step = steps now past is in
-    record {
-      since = step.0 ∷ [];
-      told_is = step.1;
-      each = (
-        record {
-          at = ap (λ at. at place) step.2.at;
-          crash = λ e may. subst (λ crash. IsTrue (crash place e)) step.2.crash may;
-          sure = λ file may. step.2.others file (λ at. own file at
-              (subst (λ crash. IsTrue (crash place (Some file))) step.2.crash may));
-        },
-        tt,
-      );
+    goes_once _ _ _ _ step.1 record {
+      at = ap (λ at. at place) step.2.at;
+      crash = λ e may. subst (λ crash. IsTrue (crash place e)) step.2.crash may;
+      sure = λ file may. step.2.others file (λ at. own file at
+          (subst (λ crash. IsTrue (crash place (Some file))) step.2.crash may));
     }
 
 -- .. at the one place to which a path leads
@@ -226,7 +203,7 @@ pub goes_alone : (paths : Paths) (names : Names) (first : Moment) (past : List M
     (told : Option (List Moment)) → IsAlone paths names first past told → (p : ℕ × List ℕ)
     → p ≢ place_of paths (string_bytes names.new) → Goes (IsSameAt p first) (first ∷ past) told
 goes_alone paths names first past told alone p other =
-    record { since = alone.now ∷ []; told_is = alone.told_is; each = (alone.others p other, tt) }
+    goes_once _ _ _ _ alone.told_is (alone.others p other)
 
 -- .. so it is at the place of a draft
 pub ready_stays : (paths : Paths) (names : Names) (place : List ℕ) (contents : Option (List ℕ))
