@@ -229,3 +229,12 @@ def test_parts():
     # a make within another one says which folder it enters
     made = succeed("make", "--no-print-directory", "--dry-run", "check", cwd=ROOT)
     assert made.decode().split()[1:] == parts
+
+
+def test_patience():
+    """A part that is to be patient is so before the processes of other parts, too."""
+    told = re.search(r"(?m)^PATIENCE = '(.*)'$", (ROOT / "tools/check").read_text())[1]
+    if not os.path.exists("/proc/self/autogroup"):
+        pytest.skip("this system has no groups of processes that share its processors")
+    group = succeed("sh", "-c", told, "sh", "cat", "/proc/self/autogroup", start_new_session=True)
+    assert group.endswith(b" nice 10\n")

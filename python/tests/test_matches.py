@@ -366,6 +366,7 @@ class Refusals(unittest.TestCase):
             self.refused(match, "malformed", line, what)
 
     def test_illegal(self) -> None:
+        outside = "gnubg bears off with a checker outside the home board"
         for match, line, what in (
             at(7, "24/18 18/14", "23/22 22/21", "root has no checker on point 23"),
             at(8, "24/21 13/11*", "24/21 22/20", "gnubg has no checker on point 22"),
@@ -375,20 +376,10 @@ class Refusals(unittest.TestCase):
             at(7, "24/18 18/14", "24/18* 18/14", "no checker can be hit on point 18"),
             at(7, "24/18 18/14", "24/18 6/1", "on point 1 stand 2 checkers of the other player"),
             at(10, "15/9 15/9", "15/9 15/2", "the play is of more pips than the roll"),
-            at(
-                22,
-                "12/9 9/6 3/0 3/0",
-                "12/8 3/0",
-                "gnubg bears off with a checker outside the home board",
-            ),
+            at(22, "12/9 9/6 3/0 3/0", "12/8 3/0", outside),
             at(7, "24/18 18/14", "24/13", "the play is of more pips than the roll"),
             at(10, "21/15 21/15 15/9 15/9", "21/15(4)", "root has no checker on point 21"),
-            at(
-                20,
-                "13/11 11/5",
-                "6/0 6/4",
-                "gnubg bears off with a checker outside the home board",
-            ),
+            at(20, "13/11 11/5", "6/0 6/4", outside),
             at(25, "5/0 2/1", "5/0", "no play of 51 leads from 0,2,0,1,5,2 to 0,2,0,1,4,2"),
             at(28, "2/0 4/1", "4/2", "no play of 32 leads from 0,1,0,1,0,0 to 0,2,0,0,0,0"),
             at(
