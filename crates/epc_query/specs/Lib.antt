@@ -6,6 +6,5 @@ pub mod Runs
 pub mod LevelMeans
 pub mod UsedReads
 pub mod Opened
-pub mod Rooms
 pub mod BookLevels
 pub mod Lists

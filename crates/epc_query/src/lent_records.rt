@@ -4,8 +4,7 @@
 ghost use Rattle.std.specs.Prelude.{◌≡◌, ◌+◌, ◌<◌, ◌≤◌, length};
 ghost use Rattle.race_model.specs.Ranks.{first_of, count_to};
 ghost use Rattle.race_model.specs.Versions.{version_by, record_length as length_of};
-ghost use Rattle.race_model.specs.Files.{bytes_at, told_record};
-ghost use Rattle.epc_query.specs.Rooms.{HoldsRecords};
+ghost use Rattle.race_model.specs.Files.{bytes_at, record_place, told_record};
 
 use db_layout::{RecordView, record_length};
 use ranking::first_of;
@@ -23,7 +22,8 @@ pub struct LentRecords<'a> {
     /// The pip bound of the file that they were.
     pub bound: u8,
 
-    pub ghost sized: { HoldsRecords version bound (length bytes.now) },
+    pub ghost low: { bound ≤ 58 },
+    pub ghost sized: { record_place (version_by version) (count_to bound) ≤ length bytes.now },
 }
 
 impl<'a> LentRecords<'a> {
