@@ -10,7 +10,7 @@
 #![tactic(auto)]
 
 use certificate::check_board;
-use db_layout::BoardHeader;
+use db_layout::{BOARD_VERSION, BoardHeader, Kind};
 use retrograde::{BoardBuildFault, build_board};
 use std::alloc::{AllocError, Global};
 use std::{env, fs, io};
@@ -76,8 +76,10 @@ fn damage(rt: &impl Print, file: &mut [u8], from: u16, step: u16) -> io::Result<
         if step == 0 || (rank - from) % step != 0 {
             continue;
         }
-        let place = header.find(rank);
-        let at = place.offset.wrapping_add(usize::from(rank) % place.length);
+        let place = Kind::Board.find(BOARD_VERSION, header.bound, rank);
+        let at = place
+            .offset
+            .wrapping_add(u64::from(rank) % u64::from(place.length)) as usize;
         if at < file.len() {
             file[at] ^= 1 << (rank % 8);
             match check_board(file) {

@@ -16,8 +16,8 @@ use crate::checked::check;
 use crate::equations::{PlayedRecord, check_numbers};
 use crate::numbers::plays_by;
 use db_layout::{
-    BoardHeader, BoardRecord, LowerRecords, WORDS, leading_bits, most_rolls, parse_board_header,
-    word_sums,
+    BOARD_VERSION, BoardHeader, BoardRecord, Kind, LowerRecords, WORDS, leading_bits, most_rolls,
+    parse_board_header, word_sums,
 };
 use db_reader::Whole;
 use least_plays::{LeastPlays, ROWS_TO_90, check_plays};
@@ -75,16 +75,17 @@ fn check_records(bytes: &[u8], header: BoardHeader) -> Result<(), CheckFault>
     let mut offsets = [0; POSITIONS];
     let mut leading = [0; POSITIONS];
     for rank in 0..header.count {
-        let place = header.find(rank);
+        let place = Kind::Board.find(BOARD_VERSION, header.bound, rank);
+        let start = place.offset as usize;
         let count = usize::from(rank);
         let lower = LowerRecords::new(bytes, &offsets[..count], &leading[..count]);
-        let stored = &bytes[place.offset..place.offset + place.length];
+        let stored = &bytes[start..start + place.length as usize];
         let record = BoardRecord::new(stored, place.pips).unwrap();
         if let Err(fault) = check_record(&lower, &record, &ranks, rank, &mut plays) {
             return Err(fault_at(rank, fault));
         }
         offsets[count] = place.offset as u32;
-        leading[count] = leading_bits(bytes, place.offset);
+        leading[count] = leading_bits(bytes, start);
     }
     Ok(())
 }

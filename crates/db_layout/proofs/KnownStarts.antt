@@ -1,17 +1,17 @@
--- The constants that say where the records of each pip count begin in a file of version 2.
+-- The constants that say where the records of each pip count begin.
 use Rattle.std.proofs.Common.{◌≡◌, ℕ, zero, suc, ◌+◌, ◌-◌, ◌*◌, ◌<◌, ◌≤◌, List, [], ◌∷◌, map, slice_index}
 use Rattle.std.proofs.Common.{refl, sym, ap, ap₂, ◌∙◌, arith, add-one}
 use Rattle.std.specs.List.{range_with_len}
 use Rattle.std.proofs.lemmas.List.FromFn.{get_or-map-range_with_len}
 use Rattle.race_model.specs.Ranks.{first_of}
 use Rattle.race_model.specs.Versions.{compact, record_length}
-use Rattle.race_model.specs.Files.{record_place}
 use Rattle.race_model.proofs.Ranks.RankOrder.{first_of-zero}
-use Rattle.race_model.specs.Files.{place_by}
-use Rattle.race_model.proofs.RightFiles.Places.{place_by-first, record_place-by}
+use Rattle.race_model.specs.Files.{place_by, record_place}
+use Rattle.race_model.specs.BoardFiles.{board_length, board_place}
+use Rattle.race_model.proofs.RightFiles.Places.{place_by-first, record_place-by, board_place-by}
 use Rattle.ranking.specs.declared.firsts.TheConstants.{FIRSTS}
 use Rattle.ranking.proofs.LevelCounts.{at_first}
-use Rattle.db_layout.specs.declared.places.TheConstants.{STARTS}
+use Rattle.db_layout.specs.declared.places.TheConstants.{STARTS, BOARD_STARTS}
 use Rattle.db_layout.proofs.RecordPlaces.{place_beyond}
 
 -- the records of p pips have size p bytes
@@ -60,7 +60,13 @@ module _ (size : ℕ → ℕ) where
           (ap (place_by size) first_of-zero ∙ place_by-first size))
 
 -- each number of the table for version 2 is where the records of a pip count begin
-pub at_start : (p : ℕ) → p < 60 → slice_index STARTS p ≡ record_place compact (first_of p)
+pub at_start : (p : ℕ) → p ≤ 58 → slice_index STARTS p ≡ record_place compact (first_of p)
 at_start p low =
-    at_place (record_length compact) STARTS 60 (omega arith) refl p low
+    at_place (record_length compact) STARTS 59 (omega arith) refl p (omega (arith, low))
     ∙ sym (record_place-by compact (first_of p))
+
+-- .. and each of that for a board file
+pub at_board_start : (p : ℕ) → p ≤ 90 → slice_index BOARD_STARTS p ≡ board_place (first_of p)
+at_board_start p low =
+    at_place board_length BOARD_STARTS 91 (omega arith) refl p (omega (arith, low))
+    ∙ sym (board_place-by (first_of p))

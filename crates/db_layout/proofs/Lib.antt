@@ -6,7 +6,6 @@ pub mod RecordPlaces
 pub mod KnownStarts
 pub mod WholeFiles
 pub mod ByteParts
-pub mod BoardStarts
 pub mod BoardPlaces
 pub mod SameFronts
 pub mod SameRecords

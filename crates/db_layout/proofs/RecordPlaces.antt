@@ -1,13 +1,20 @@
--- Where the records of one pip count stand: behind those of fewer pips, all of one length.
-use Rattle.std.proofs.Common.{◌≡◌, ℕ, ◌+◌, ◌-◌, ◌*◌, ◌<◌, ◌≤◌, ◌⊎◌, inl, inr, ap, sym, ◌∙◌, arith, add-one}
-use Rattle.std.proofs.lemmas.Bool.{cases_lt}
+-- Where the records of a file stand: each behind the one before it, and those of one pip count, all
+-- of one length, behind those of fewer pips.
+use Rattle.std.proofs.Common.{◌≡◌, ℕ, suc, ◌+◌, ◌-◌, ◌*◌, ◌<◌, ◌≤◌, ap, sym, ◌∙◌, arith, add-one}
 use Rattle.race_model.specs.Positions.{pips}
 use Rattle.race_model.specs.Ranks.{rank, at_rank, first_of, count_to}
-use Rattle.race_model.proofs.Ranks.RankOrder.{at_rank_position, first_of-suc, first_of-rises}
+use Rattle.race_model.proofs.Ranks.RankOrder.{at_rank_position, pips-range, first_of-suc, first_of-rises}
 use Rattle.race_model.proofs.Ranks.PositionTotals.{rank-at_rank, count_to-most}
 use Rattle.race_model.specs.Files.{place_by}
-use Rattle.race_model.proofs.RightFiles.Places.{place_by-level}
+use Rattle.race_model.specs.Versions.{Version, full, compact, version_by, record_length}
+use Rattle.race_model.proofs.Strategies.Horizons.{most_rolls-board}
+use Rattle.race_model.proofs.RightFiles.Places.{place_by-level, place_by-rises, place_by-at_most}
+use Rattle.race_model.proofs.RightFiles.Places.{record_place-by, board_place-by}
+use Rattle.race_model.proofs.RightFiles.Right.{greatest_bound-most}
 use Rattle.ranking.proofs.Counting.{pips-are}
+use Rattle.db_layout.specs.Layouts.{layout_in, length_in}
+use Rattle.db_layout.specs.declared.stated.Kind.{Kind}
+use Rattle.db_layout.specs.declared.stated.Kind.TheVariants.{Database, Board}
 
 -- one position more than those of fewer pips begins the next pip count
 pub first_of-next : (p : ℕ) → first_of (p + 1) ≡ count_to p
@@ -58,10 +65,39 @@ module _ (size : ℕ → ℕ) where
       parts : (a b : ℕ) → a ≤ b → a + (b - a) ≡ b
       parts a b h = omega (arith, h)
 
--- a rank of at most 58 pips is one of no more
-pub pips-most : (p r : ℕ) → first_of p ≤ r → r < count_to 58 → p ≤ 58
-pips-most p r from under = by_cases (cases_lt p 59) where
-  by_cases : (p < 59) ⊎ (59 ≤ p) → p ≤ 58
-  by_cases (inl few) = omega (arith, few)
-  by_cases (inr many) =
-      absurd (omega (arith, from, under, first_of-next 58, first_of-rises 59 p many))
+  -- a record ends before any of higher rank begins
+  pub place_before : (r n : ℕ) → r < n →
+      place_by size r + size (pips (at_rank r)) ≤ place_by size n
+  place_before r n under =
+      omega (arith, place_by-rises size r (n - suc r), ap (place_by size) (parts n under))
+    where
+      parts : (n : ℕ) → r < n → suc r + (n - suc r) ≡ n
+      parts n h = omega (arith, h)
+
+-- a record of a kind of file stands behind those of lower ranks
+pub place-in : (kind : Kind) (version r : ℕ) →
+    (layout_in kind version).place r ≡ place_by (length_in kind version) r
+place-in Database version r = record_place-by (version_by version) r
+place-in Board version r = board_place-by r
+
+-- .. and has at most 594 bytes
+pub length-most : (kind : Kind) (version p : ℕ) → p ≤ 90 → length_in kind version p ≤ 594
+length-most Database version p low = by_version (version_by version) where
+  by_version : (v : Version) → record_length v p ≤ 594
+  by_version full = omega arith
+  by_version compact = omega (arith, most_rolls-board p low)
+length-most Board version p low = omega (arith, most_rolls-board p low)
+
+-- .. so none begins later than such records would
+pub place-most : (kind : Kind) (version r : ℕ) → (layout_in kind version).place r ≤ 32 + 594 * r
+place-most kind version r =
+    rw (place-in kind version r)
+    (place_by-at_most (length_in kind version) 594 r
+    (λ k below.
+    length-most kind version (pips (at_rank k)) (pips-range (at_rank k) (at_rank_position k))))
+
+-- no file of a kind has a greater bound than one of version 2
+pub greatest-most : (kind : Kind) (version : ℕ) →
+    (layout_in kind version).greatest ≤ (layout_in kind 2).greatest
+greatest-most Database version = greatest_bound-most (version_by version)
+greatest-most Board version = omega arith

@@ -1,17 +1,14 @@
 //! The header of a board file: its pip bound, and how many records follow.
-ghost use Rattle.std.specs.Prelude.{◌≡◌, ℕ, ◌+◌, ◌<◌, ◌≤◌, ◌↔◌, List, length, IsSome, IfSome, IfOk, IfErr};
-ghost use Rattle.race_model.specs.Positions.{pips};
-ghost use Rattle.race_model.specs.Ranks.{at_rank, count_to};
+ghost use Rattle.std.specs.Prelude.{◌≡◌, ℕ, ◌≤◌, ◌↔◌, List, length, IsSome, IfSome, IfOk, IfErr};
+ghost use Rattle.race_model.specs.Ranks.{count_to};
 ghost use Rattle.race_model.specs.Files.{bound_of};
-ghost use Rattle.race_model.specs.BoardFiles.{board_header, board_length, board_place, IsBoardFile};
+ghost use Rattle.race_model.specs.BoardFiles.{board_header, board_place, IsBoardFile};
 ghost use Rattle.race_model.specs.Headers.{IsFirstBoardHeaderFault};
 ghost use Rattle.db_layout.specs.HeaderFaults.{test_of};
 
-use crate::board_places::{board_length, board_offset};
 use crate::header::HeaderFault;
 use crate::record::HEADER_BYTES;
 use crate::stated::{BOARD_BOUND, BOARD_VERSION, Kind, header_with, read_header};
-use ranking::pips_of;
 
 /// The header of a board file: its pip bound, 0 to 90, and how many records follow, one for each
 /// position of at most so many pips (this project's profile).
@@ -21,19 +18,6 @@ pub struct BoardHeader {
     pub count: u16,
     ghost bounded: { bound ≤ 90 },
     ghost counted: { count ≡ count_to bound },
-}
-
-/// Where the record of one position stands in a board file.
-#[derive(Clone, Copy, Debug, PartialEq, Eq)]
-pub struct BoardPlace {
-    /// How many bytes stand before it.
-    pub offset: usize,
-
-    /// How many bytes it has.
-    pub length: usize,
-
-    /// The pip count of its position.
-    pub pips: u8,
 }
 
 impl BoardHeader {
@@ -56,23 +40,6 @@ impl BoardHeader {
         BoardHeader {
             bound,
             count: ranking::count_to(bound),
-        }
-    }
-
-    /// Where the record of a rank stands.
-    pub fn find(&self, rank: u16) -> BoardPlace
-        requires { rank < self.now.count }
-        ensures offset { result.offset ≡ board_place rank }
-        ensures length { result.length ≡ board_length (pips (at_rank rank)) }
-        ensures pips { result.pips ≡ pips (at_rank rank) }
-        ensures range { result.pips ≤ self.now.bound }
-        ensures inside { result.offset + result.length ≤ board_place self.now.count }
-    {
-        let pips = pips_of(rank);
-        BoardPlace {
-            offset: board_offset(pips, rank),
-            length: board_length(pips),
-            pips,
         }
     }
 

@@ -103,7 +103,7 @@ impl Header {
         ensures len { result.1
             ≡ record_length (version_by self.now.version) (pips (at_rank rank)) }
     {
-        let place = self.find(rank);
+        let place = Kind::Database.find(self.version, self.bound, rank);
         (place.offset, place.length)
     }
 

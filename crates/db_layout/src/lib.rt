@@ -6,7 +6,7 @@
 //! numbers of a next record are those of the equations.
 #![tactic(auto)]
 
-pub use board_header::{BoardHeader, BoardPlace, parse_board_header};
+pub use board_header::{BoardHeader, parse_board_header};
 pub use board_numbers::{count_of, mean_of};
 pub use board_places::{board_length, count_place};
 pub use board_record::{BoardRecord, Parts};
@@ -14,7 +14,7 @@ pub use board_words::{WORDS, word_sums};
 pub use board_writing::{put_count, put_mean, put_plays};
 pub use header::{Header, HeaderFault, parse_header};
 pub use lower_records::{LowerRecords, leading_bits};
-pub use places::{Place, most_rolls, offset_of, record_length};
+pub use places::{Place, most_rolls, record_length};
 pub use record::{HEADER_BYTES, RECORD_BYTES, RecordView, read_short};
 pub use stated::{BOARD_BOUND, BOARD_VERSION, COMPACT_VERSION, Kind, VERSION};
 pub use stored_shares::StoredShares;

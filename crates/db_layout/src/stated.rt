@@ -1,14 +1,11 @@
 //! What the header of a file states, of any version: read, and written.
-ghost use Rattle.std.specs.Prelude.{◌≡◌, ◌≤◌, ◌↔◌, IsSome, IfSome, IfOk, IfErr};
-ghost use Rattle.race_model.specs.Ranks.{count_to};
+ghost use Rattle.std.specs.Prelude.{◌≡◌, ◌↔◌, IsSome, IfSome, IfOk, IfErr};
 ghost use Rattle.race_model.specs.Files.{bound_of, header_by};
 ghost use Rattle.race_model.specs.Headers.{HeaderTest, HeaderHoldsBy, IsFirstHeaderFaultBy};
 ghost use Rattle.db_layout.specs.HeaderFaults.{test_of};
 ghost use Rattle.db_layout.specs.Layouts.{layout_in, number_of};
 
-use crate::board_places::board_offset;
 use crate::header::HeaderFault;
-use crate::places::offset_of;
 use crate::record::{HEADER_BYTES, read_short, read_word};
 use home_board::{MAX_BOUND, OLD_BOUND};
 
@@ -60,18 +57,6 @@ impl Kind {
         match self {
             Kind::Database if version != COMPACT_VERSION => 426,
             _ => 0,
-        }
-    }
-
-    /// Where the records of a version of this kind end, which go to a bound.
-    pub(crate) fn end_of(self, version: u16, bound: u8) -> u64
-        requires { bound ≤ (layout_in self version).greatest }
-        ensures { result ≡ (layout_in self version).place (count_to bound) }
-    {
-        let count = ranking::count_to(bound);
-        match self {
-            Kind::Database => offset_of(version, bound, count),
-            Kind::Board => board_offset(bound, count) as u64,
         }
     }
 }

@@ -10,7 +10,7 @@ use crate::front::header_of;
 use crate::record::Record;
 use crate::source::{Source, SourceFault};
 use crate::table::{ReadFault, Table, TableFault};
-use db_layout::{HEADER_BYTES, Header, RecordView};
+use db_layout::{HEADER_BYTES, Header, Kind, RecordView};
 use lru::{DefaultHasher, LruCache};
 use std::alloc::{Allocator, Global};
 use std::num::NonZeroUsize;
@@ -145,6 +145,7 @@ fn read_record<S: Source>(source: &mut S, header: Header, rank: u16) -> Result<R
     ensures stays { SourceStays ⟦<S as Source>⟧ source.old source.new (IsErr result) }
 {
     let mut read = Record::new();
-    read.read_from(source, header.version, header.find(rank))?;
+    let place = Kind::Database.find(header.version, header.bound, rank);
+    read.read_from(source, header.version, place)?;
     Ok(read)
 }

@@ -9,7 +9,7 @@ ghost use Rattle.db_reader.specs.Reads.{HasHeader, HasRecord};
 use crate::front::header_of;
 use crate::record::Record;
 use crate::table::{ReadFault, Table, TableFault};
-use db_layout::{COMPACT_VERSION, HEADER_BYTES, Header, RECORD_BYTES, RecordView};
+use db_layout::{COMPACT_VERSION, HEADER_BYTES, Header, Kind, RECORD_BYTES, RecordView};
 
 /// The table over the bytes of a whole database, in memory that it borrows. It tells these bytes,
 /// lends each record from them and copies none, and never fails.
@@ -73,7 +73,7 @@ impl<'a> Table for Whole<'a> {
             let bytes = &self.bytes[first..first + RECORD_BYTES];
             return RecordView::of_version(bytes, header.version, 0).unwrap();
         }
-        let place = header.find(rank);
+        let place = Kind::Database.find(header.version, header.bound, rank);
         let first = place.offset as usize;
         let bytes = &self.bytes[first..first + place.length as usize];
         RecordView::of_version(bytes, header.version, place.pips).unwrap()

@@ -1,11 +1,12 @@
 -- The records of a file in bytes that are lent, where the bytes are those of the file.
-use Rattle.std.proofs.Common.{◌≡◌, ℕ, suc, ◌+◌, ◌-◌, ◌<◌, ◌≤◌, List, length, refl, ap, arith}
+use Rattle.std.proofs.Common.{◌≡◌, ℕ, ◌+◌, ◌<◌, ◌≤◌, List, length, refl, ap, arith}
 use Rattle.race_model.specs.Positions.{pips}
 use Rattle.race_model.specs.Ranks.{at_rank, count_to}
 use Rattle.race_model.specs.Versions.{Version, record_length}
 use Rattle.race_model.specs.Files.{version_of, bound_of, bytes_at, record_place, told_record, record_at}
 use Rattle.race_model.specs.RightFiles.{IsRightDatabase}
-use Rattle.race_model.proofs.RightFiles.Places.{record_place-rises}
+use Rattle.race_model.proofs.RightFiles.Places.{record_place-by}
+use Rattle.db_layout.proofs.RecordPlaces.{place_before}
 
 -- of the position of a rank under the count of the bound
 module _ (f bytes : List ℕ) (right : IsRightDatabase f) (bytes_are : bytes ≡ f) (version : Version)
@@ -23,12 +24,10 @@ module _ (f bytes : List ℕ) (right : IsRightDatabase f) (bytes_are : bytes ≡
         arith,
         offset_is,
         ap (record_length version) pips_are,
-        record_place-rises version r (count_to (bound_of f) - suc r),
-        ap (record_place version) (parts r (count_to (bound_of f)) under),
+        record_place-by version r,
+        record_place-by version (count_to (bound_of f)),
+        place_before (record_length version) r (count_to (bound_of f)) under,
         ap (λ v. record_place v (count_to (bound_of f))) version_is,
         right.file.whole,
         ap length bytes_are,
       )
-    where
-      parts : (r n : ℕ) → r < n → suc r + (n - suc r) ≡ n
-      parts r n h = omega (arith, h)

@@ -31,7 +31,7 @@ use crate::lent_records::LentRecords;
 use crate::turns;
 use arrayvec::ArrayVec;
 use certificate::{CheckFault, check, spread_in};
-use db_layout::{RecordView, offset_of};
+use db_layout::{Kind, RecordView};
 use db_reader::Whole;
 use fixed_fraction::{Fraction, Scaled, Spread, mean};
 use home_board::Position;
@@ -179,7 +179,7 @@ impl<'a> Database<'a> {
         let _bound = self.bound();
         let lent = self.lent();
         let pips = position.pips();
-        lent.at(pips, offset_of(lent.version, pips, rank))
+        lent.at(pips, Kind::Database.offset_of(lent.version, pips, rank))
     }
 
     /// The record of a position of at most the bound.

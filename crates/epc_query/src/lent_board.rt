@@ -6,7 +6,7 @@ ghost use Rattle.race_model.specs.Positions.{pips};
 ghost use Rattle.race_model.specs.Ranks.{at_rank};
 ghost use Rattle.race_model.specs.BoardFiles.{board_place, board_record};
 
-use db_layout::{BoardHeader, BoardRecord};
+use db_layout::{BOARD_VERSION, BoardHeader, BoardRecord, Kind};
 
 /// Bytes that somebody lends, at least as many as a board file with a header has. No fact is kept
 /// of what they are, and no function asks for one.
@@ -31,8 +31,9 @@ impl<'a> LentBoard<'a> {
           bytes = board_record self.now.bytes.now rank;
         }) }
     {
-        let place = self.header.find(rank);
-        let bytes = &self.bytes[place.offset..place.offset + place.length];
+        let place = Kind::Board.find(BOARD_VERSION, self.header.bound, rank);
+        let start = place.offset as usize;
+        let bytes = &self.bytes[start..start + place.length as usize];
         BoardRecord::new(bytes, place.pips)
     }
 }

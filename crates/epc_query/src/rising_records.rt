@@ -5,7 +5,7 @@ ghost use Rattle.race_model.specs.Ranks.{first_of, count_to};
 ghost use Rattle.race_model.specs.Files.{version_of, bound_of, record_place, record_at, mean_at};
 
 use crate::database::Database;
-use db_layout::{RecordView, offset_of, record_length};
+use db_layout::{Kind, RecordView, record_length};
 use fixed_fraction::Scaled;
 
 /// The records of a database from a rank on, which may be one beyond the last.
@@ -41,7 +41,7 @@ impl<'a> Database<'a> {
             database: self,
             rank: first,
             pips,
-            offset: offset_of(lent.version, pips, first),
+            offset: Kind::Database.offset_of(lent.version, pips, first),
         }
     }
 }

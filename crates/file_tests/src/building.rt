@@ -2,7 +2,7 @@
 //! numbers. Writers that stop are those of `failing_calls`.
 use crate::given::{WHOLE_BYTES, compact_database, database};
 use db_layout::trial::RefuseAt;
-use db_layout::{COMPACT_VERSION, Header, RecordView, VERSION};
+use db_layout::{COMPACT_VERSION, Header, Kind, RecordView, VERSION};
 use fixed_fraction::{Scaled, WHOLE};
 use home_board::Position;
 use legal_plays::parse_roll;
@@ -137,7 +137,7 @@ fn mean_at(file: &[u8], header: Header, rank: u16) -> Option<u128> {
     if rank >= header.count {
         return None;
     }
-    let place = header.find(rank);
+    let place = Kind::Database.find(header.version, header.bound, rank);
     let bytes = file.get(place.offset as usize..)?;
     let bytes = bytes.get(..place.length as usize)?;
     RecordView::of(bytes, &header, place.pips).map(|record| record.mean())

@@ -11,7 +11,9 @@ ghost use Rattle.retrograde.specs.BuiltBoards.{IsBuiltBoard, IsBoardRefusedBy};
 use crate::board_build_fault::BoardBuildFault;
 use crate::board_record::put_record;
 use crate::level::{add_level, level_place, put_bytes};
-use db_layout::{BoardHeader, Header, LowerRecords, header_bytes, leading_bits};
+use db_layout::{
+    BOARD_VERSION, BoardHeader, Header, Kind, LowerRecords, header_bytes, leading_bits,
+};
 use fixed_fraction::Scaled;
 use least_plays::{LeastPlays, ROWS_TO_8, ROWS_TO_90};
 use ranking::Ranks;
@@ -150,14 +152,15 @@ fn fill_board<const ROWS: usize, const COUNT: usize>(header: &BoardHeader, room:
     let mut leading = [0; COUNT];
     for rank in 0..header.count {
         let index = usize::from(rank);
-        let place = header.find(rank);
+        let place = Kind::Board.find(BOARD_VERSION, header.bound, rank);
+        let start = place.offset as usize;
         let position = ranks.unrank(rank).unwrap();
         let lower = LowerRecords::new(room, &offsets[..index], &leading[..index]);
         let plays = least.advance(&ranks, &position, &lower);
         let mut bytes = [0; BOARD_RECORD_BYTES];
         put_record(&mut bytes, &lower, &position, &plays);
-        put_bytes(room, place.offset, &bytes[..place.length]);
+        put_bytes(room, start, &bytes[..place.length as usize]);
         offsets[index] = place.offset as u32;
-        leading[index] = leading_bits(room, place.offset);
+        leading[index] = leading_bits(room, start);
     }
 }

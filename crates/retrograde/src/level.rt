@@ -10,7 +10,7 @@ ghost use Rattle.retrograde.specs.KeptRecords.{AreKept, HasRoom, level_shares};
 
 use crate::kept_shares::{KeptRecords, keep};
 use crate::pulling::next_record;
-use db_layout::{Header, most_rolls, offset_of, record_bytes};
+use db_layout::{Header, Kind, most_rolls, record_bytes};
 use fixed_fraction::Scaled;
 use least_plays::LeastPlays;
 use ranking::Ranks;
@@ -91,8 +91,8 @@ pub(crate) fn level_place(header: &Header, ranks: &Ranks, pips: u8) -> (usize, u
         ≤ record_place (version_by header.now.version) (count_to pips) }
 {
     (
-        offset_of(header.version, pips, ranks.first_of(pips)) as usize,
-        offset_of(header.version, pips, ranks.count_to(pips)) as usize,
+        Kind::Database.offset_of(header.version, pips, ranks.first_of(pips)) as usize,
+        Kind::Database.offset_of(header.version, pips, ranks.count_to(pips)) as usize,
     )
 }
 

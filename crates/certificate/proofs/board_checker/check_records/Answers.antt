@@ -76,8 +76,8 @@ module _ (c : After-from-count) where
   count-is : c.args.header.count ≡ count_to (bound_of c.args.bytes.now)
   count-is = c.args.header.counted ∙ ap count_to c.requires.bound
 
-  end : length c.args.bytes.now ≡ board_place c.args.header.count
-  end = c.requires.file.whole ∙ ap board_place (sym count-is)
+  end : length c.args.bytes.now ≡ board_place (count_to c.args.header.bound)
+  end = c.requires.file.whole ∙ ap (λ b. board_place (count_to b)) (sym c.requires.bound)
 
   are : AreRecords c.args.bytes.now (take c.from-count.result c.loop-rank.offsets)
       (take c.from-count.result c.loop-rank.leading)
