@@ -1,6 +1,5 @@
 -- What the tests of the records of a file tell, one after another.
-use Rattle.std.proofs.Common.{◌≡◌, ◌↔◌, ⊎_elim, ℕ, ◌+◌, ◌<◌, ◌≤◌, List, length, take, refl, sym, ap, subst, ◌∙◌, arith}
-use Rattle.std.proofs.lemmas.Bool.{cases_lt}
+use Rattle.std.proofs.Common.{◌≡◌, ◌↔◌, ℕ, ◌<◌, ◌≤◌, List, length, take, refl, arith}
 use Rattle.race_model.specs.Positions.{Board, IsPosition, pips}
 use Rattle.race_model.specs.Ranks.{rank, at_rank, count_to}
 use Rattle.race_model.specs.Files.{IsFile, bound_of}
@@ -15,7 +14,7 @@ use Rattle.race_model.specs.FirstFault.{rank_of, Holds, Asks, AsksIn, IsFirstFau
 use Rattle.race_model.specs.FirstFault.{IsFirstFailing, IsFirstInRecord}
 use Rattle.race_model.specs.RightFiles.{IsRightDatabase}
 use Rattle.race_model.proofs.Dice.Throws.{roll_of_index}
-use Rattle.race_model.proofs.Ranks.RankOrder.{rank_bound, at_rank-rank, at_rank_position}
+use Rattle.race_model.proofs.Ranks.RankOrder.{rank_bound, at_rank_position}
 use Rattle.race_model.proofs.Ranks.PositionTotals.{rank-at_rank, count_to-most}
 use Rattle.race_model.proofs.FirstFaults.HeaderFacts.{header_fault_refuses, header_of_board}
 use Rattle.race_model.proofs.FirstFaults.Questions.{fault_refuses, board_fault_refuses}
@@ -37,16 +36,6 @@ module _ (local : Board → Type 0) where
   -- the records of lower rank are accepted
   abbrev pub AreAccepted : ℕ → Type 0
   AreAccepted r = (z : Board) → IsPosition z → rank z < r → local z
-
-  -- one record more is accepted
-  pub accepted-more : (r : ℕ) → AreAccepted r → local (at_rank r) → AreAccepted (r + 1)
-  accepted-more r accepted here z at low = ⊎_elim
-      (λ less. accepted z at less)
-      (λ more.
-      let is : rank z ≡ r = omega arith in
-      let same : at_rank r ≡ z = ap at_rank (sym is) ∙ at_rank-rank z at in
-      subst local same here)
-      (cases_lt (rank z) r)
 
   -- where all to a bound are accepted, each equation to it holds
   pub accepted-all : (bound r : ℕ) → count_to bound ≤ r → AreAccepted r → (x : Board) →

@@ -1,12 +1,12 @@
 //! The checker's verdict, and an accepted table with its answers.
-ghost use Rattle.std.specs.Prelude.{◌≡◌, ℕ, ◌<◌, ◌≤◌, ◌↔◌, Err, slice_index, IsOk, IfOk, IfErr, OnOk};
+ghost use Rattle.std.specs.Prelude.{◌≡◌, ℕ, ◌<◌, ◌≤◌, ◌↔◌, Err, slice_index, IsOk, IfOk, IfErr, IsTrue, OnOk};
 ghost use Rattle.race_model.specs.Positions.{IsPosition, IsFinished, pips};
 ghost use Rattle.race_model.specs.Plays.{Legal};
 ghost use Rattle.race_model.specs.Ranks.{rank as rank_of, count_to};
 ghost use Rattle.race_model.specs.Versions.{compact, version_number};
 ghost use Rattle.race_model.specs.Files.{version_of, bound_of, mean as mean_of, spread as share_of};
 ghost use Rattle.race_model.specs.LocalEquations.{recorded, IsLocalDatabase};
-ghost use Rattle.race_model.specs.RightFiles.{IsRightDatabase, follow};
+ghost use Rattle.race_model.specs.RightFiles.{IsRight, IsRightBoard, IsRightDatabase, follow};
 ghost use Rattle.race_model.specs.Fractions.{IsMean, IsEffectivePips};
 ghost use Rattle.race_model.specs.Strategies.{IsLeast, count_of};
 ghost use Rattle.race_model.specs.FirstPlays.{IsFirstPlay};
@@ -16,19 +16,19 @@ ghost use Rattle.db_reader.specs.Telling.{WhereTold, RoseWhere};
 ghost use Rattle.db_reader.specs.TableStays.{TableStays};
 ghost use Rattle.certificate.specs.Accepted.{HasAccepted};
 ghost use Rattle.certificate.specs.Databases.{Stays};
-ghost use Rattle.certificate.specs.CheckFaults.{IsFirst};
+ghost use Rattle.certificate.specs.CheckFaults.{IsFirst, IsFirstOnBoard};
 ghost use Rattle.certificate.specs.QueryFaults.{RefusesNumbers, RefusesPlays};
 ghost use Rattle.certificate.specs.Upgrades.{WritesUpgrade, IsUpgradeRefused};
 ghost use Rattle.std.specs.Io.KnownBytes.{Keeps};
 
 use crate::check_fault::CheckFault;
-use crate::checker::check_records;
+use crate::checker::{check_board_records, check_records};
 use crate::numbers::{mean_in, spread_in};
 use crate::query_fault::QueryFault;
 use crate::upgrade_fault::UpgradeFault;
 use crate::upgrading::write_upgrade;
-use db_layout::{COMPACT_VERSION, Header};
-use db_reader::{Record, Table};
+use db_layout::{BoardHeader, COMPACT_VERSION, Header, parse_board_header};
+use db_reader::{Record, Table, Whole};
 use fixed_fraction::{Fraction, Scaled, Spread, epc, mean};
 use home_board::Position;
 use legal_plays::{Play, Roll, play_to};
@@ -298,6 +298,41 @@ impl<T: Table> Checked<T> {
         }
         write_upgrade(&mut self.table, &self.ranks, &self.header, writer)
     }
+}
+
+/// Checks bytes: they are accepted exactly where they are a right board file, of at most 90 pips,
+/// and else refused with their first fault. Its header is given. It takes no memory but its own
+/// stack, some 870 KB. (What is checked is a one-sided database of the GNU Backgammon manual; the
+/// file is this project's profile.)
+// so that its room is not part of its caller's
+#[inline(never)]
+pub fn check_board(bytes: &[u8]) -> Result<BoardHeader, CheckFault>
+    ensures right { IsOk result ↔ IsRightBoard bytes.now }
+    ensures bound { IfOk result (λ header. header.bound ≡ bound_of bytes.now) }
+    ensures fault { IfErr result (IsFirstOnBoard bytes.now) }
+{
+    laws::law_boards();
+    laws::law_header();
+    let header = match parse_board_header(bytes) {
+        Ok(header) => header,
+        Err(fault) => return Err(CheckFault::Header(fault)),
+    };
+    match check_board_records(bytes, header) {
+        Ok(()) => Ok(header),
+        Err(fault) => Err(fault),
+    }
+}
+
+/// Whether some bytes are a right file, of whichever version their header states: whether they have
+/// its form, every mean in them is the least over all strategies, also those that look at the
+/// history, the recorded plays reach it, and the recorded shares are those of these plays. (What is
+/// checked is a one-sided database of the GNU Backgammon manual; the file is this project's
+/// profile.)
+pub fn is_right(bytes: &[u8]) -> bool
+    ensures { IsTrue result ↔ IsRight bytes.now }
+{
+    laws::law_versions();
+    check(Whole::new(bytes)).is_ok() || check_board(bytes).is_ok()
 }
 
 /// Makes the record of a position of an accepted table ready to be lent with this room.

@@ -1,21 +1,23 @@
-//! The check of all records of a table, by rising rank.
+//! The check of all records of a table, or of a board file, by rising rank.
 ghost use Rattle.std.specs.Prelude.{◌≡◌, ℕ, ◌+◌, ◌<◌, ◌≤◌, List, Some, Err, IfOk, IfErr, OnOk};
 ghost use Rattle.race_model.specs.Versions.{version_by};
 ghost use Rattle.race_model.specs.Files.{version_of, bound_of};
+ghost use Rattle.race_model.specs.BoardFiles.{IsBoardFile};
 ghost use Rattle.race_model.specs.LocalEquations.{IsLocalDatabase};
+ghost use Rattle.race_model.specs.BoardEquations.{IsLocalBoard};
 ghost use Rattle.least_plays.specs.Known.{HasRows};
 ghost use Rattle.db_reader.specs.Telling.{WhereTold, RoseWhere};
 ghost use Rattle.db_reader.specs.TableStays.{TableStays};
 ghost use Rattle.db_reader.specs.Reads.{HasHeader};
-ghost use Rattle.certificate.specs.CheckFaults.{IsFirst};
+ghost use Rattle.certificate.specs.CheckFaults.{IsFirst, IsFirstOnBoard};
 ghost use Rattle.certificate.specs.KeptMeans.{HasRoom};
 
 use crate::check_fault::{CheckFault, fault_at};
 use crate::kept::LowerRecords;
-use crate::record_check::check_record;
-use db_layout::Header;
+use crate::record_check::{check_board_record, check_record};
+use db_layout::{BOARD_VERSION, BoardHeader, BoardRecord, Header, Kind, RecordStarts};
 use db_reader::{Record, Table, TableFault};
-use least_plays::{ROWS_TO_8, ROWS_TO_90};
+use least_plays::{LeastPlays, ROWS_TO_8, ROWS_TO_90};
 use ranking::Ranks;
 use std::array;
 
@@ -28,6 +30,9 @@ const ROOM_TO_44: usize = 26314;
 /// How many means are kept to 58 pips: a throw takes at most 24 pips, and no 25 pip counts in a
 /// row have more positions.
 const ROOM_TO_58: usize = 35798;
+
+/// How many positions there are.
+const POSITIONS: usize = 54264;
 
 /// The header of a table whose records meet the local equations, or the first fault. It takes no
 /// memory, and adds a stored number to others only where it was accepted before.
@@ -94,4 +99,29 @@ fn check_with_room<T: Table, const ROOM: usize, const ROWS: usize>(
         }
     }
     Ok(header)
+}
+
+/// Tests the records of a board file with this header. It takes no memory.
+#[inline(never)]
+pub fn check_board_records(bytes: &[u8], header: BoardHeader) -> Result<(), CheckFault>
+    requires file { IsBoardFile bytes.now }
+    requires bound { header.bound ≡ bound_of bytes.now }
+    ensures local { OnOk result (IsLocalBoard bytes.now) }
+    ensures first { IfErr result (IsFirstOnBoard bytes.now) }
+{
+    let ranks = Ranks::new();
+    let mut plays: LeastPlays<ROWS_TO_90> = LeastPlays::new();
+    let mut starts: RecordStarts<POSITIONS> = RecordStarts::new();
+    for rank in 0..header.count {
+        let place = Kind::Board.find(BOARD_VERSION, header.bound, rank);
+        let start = place.offset as usize;
+        let lower = starts.lower(bytes);
+        let stored = &bytes[start..start + place.length as usize];
+        let record = BoardRecord::new(stored, place.pips).unwrap();
+        if let Err(fault) = check_board_record(&lower, &record, &ranks, &mut plays) {
+            return Err(fault_at(rank, fault));
+        }
+        starts.push(bytes, place.offset);
+    }
+    Ok(())
 }

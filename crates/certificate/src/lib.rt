@@ -9,7 +9,6 @@
 //! strategies; whoever built a file is not trusted.
 #![tactic(auto)]
 
-pub mod board_checker;
 mod check_fault;
 mod checked;
 mod checker;
@@ -23,9 +22,8 @@ mod record_check;
 mod upgrade_fault;
 mod upgrading;
 
-pub use board_checker::{check_board, is_right};
 pub use check_fault::CheckFault;
-pub use checked::{Checked, check};
+pub use checked::{Checked, check, check_board, is_right};
 pub use lines::fault_line;
 pub use numbers::spread_in;
 pub use query_fault::QueryFault;

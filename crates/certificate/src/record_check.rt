@@ -4,12 +4,15 @@ ghost use Rattle.std.specs.Prelude.{slice_index, slice_index_or};
 ghost use Rattle.std.specs.Prelude.{IsErr, IsErrAnd, IfOk, IfErr, OnOk};
 ghost use Rattle.race_model.specs.Positions.{Board, IsPosition, IsFinished, checkers, pips};
 ghost use Rattle.race_model.specs.Dice.{roll_at};
-ghost use Rattle.race_model.specs.Ranks.{rank as rank_of, at_rank};
-ghost use Rattle.race_model.specs.Files.{record_at, mean_at, spread_at, play};
+ghost use Rattle.race_model.specs.Ranks.{rank as rank_of, at_rank, count_to};
+ghost use Rattle.race_model.specs.Files.{bound_of, record_at, mean_at, spread_at, play};
+ghost use Rattle.race_model.specs.BoardFiles.{board_record};
 ghost use Rattle.race_model.specs.Plays.{Legal};
 ghost use Rattle.race_model.specs.BestPlays.{IsBestPlay};
 ghost use Rattle.race_model.specs.LocalEquations.{IsPlayed, IsBest, IsLocalAt};
-ghost use Rattle.least_plays.specs.Known.{HasRows};
+ghost use Rattle.race_model.specs.BoardEquations.{IsLocalOnBoard};
+ghost use Rattle.least_plays.specs.Known.{HasRows, Knows};
+ghost use Rattle.db_layout.specs.LowerRecords.{board_mean};
 ghost use Rattle.db_reader.specs.Telling.{WhereTold};
 ghost use Rattle.db_reader.specs.TableStays.{TableStays};
 ghost use Rattle.db_reader.specs.Reads.{HasHeader, HasRecord};
@@ -17,18 +20,18 @@ ghost use Rattle.certificate.specs.KeptMeans.{HasRoom};
 ghost use Rattle.certificate.specs.LowerRecords.{IsLower};
 ghost use Rattle.certificate.specs.RecordNumbers.{AreSumsOf};
 ghost use Rattle.race_model.specs.Horizon.{most_rolls};
-ghost use Rattle.certificate.specs.RecordFaults.{IsFirstFaultAt};
+ghost use Rattle.certificate.specs.RecordFaults.{IsFirstFaultAt, IsFirstFaultOnBoardAt};
 
 use crate::check_fault::{RecordFault, of_refused};
-use crate::equations::{SummedRecord, check_numbers};
+use crate::equations::{PlayedRecord, SummedRecord, check_numbers};
 use crate::kept::LowerRecords;
-use crate::numbers::plays_in;
+use crate::numbers::{plays_by, plays_in};
 use crate::play_sums::sums_of;
-use db_layout::{Header, most_rolls};
+use db_layout::{BoardRecord, Header, WORDS, most_rolls, word_sums};
 use db_reader::{ReadFault, Record, Table};
 use fixed_fraction::Sums;
 use home_board::Position;
-use least_plays::check_plays;
+use least_plays::{LeastPlays, ROWS_TO_90, check_plays};
 use race_model::laws;
 use ranking::Ranks;
 
@@ -169,4 +172,48 @@ pub fn check_record<T: Table, const ROOM: usize, const ROWS: usize>(
     }
     lower.accept(rank, view.mean());
     Ok(())
+}
+
+/// Tests the record of the next rank of a board file, where each of lower rank was accepted. The
+/// plays of the position after it can be found then.
+#[inline(never)]
+pub fn check_board_record(
+    lower: &db_layout::LowerRecords<'_>,
+    stored: &BoardRecord<'_>,
+    ranks: &Ranks,
+    plays: &mut LeastPlays<ROWS_TO_90>,
+) -> Result<(), RecordFault>
+    requires below { lower.now.count < 54264 }
+    requires pips { stored.now.pips ≡ pips (at_rank lower.now.count) }
+    requires bytes { stored.now.bytes ≡ board_record lower.now.bytes lower.now.count }
+    requires known { Knows (board_mean lower.now.bytes) plays.old lower.now.count }
+    ensures known { Knows (board_mean lower.now.bytes) plays.new (lower.now.count + 1) }
+    ensures local { OnOk result (IsLocalOnBoard lower.now.bytes (at_rank lower.now.count)) }
+    ensures first { lower.now.count < count_to (bound_of lower.now.bytes) →
+        IfErr result (IsFirstFaultOnBoardAt lower.now.bytes lower.now.count) }
+{
+    let position = ranks.unrank(lower.count()).unwrap();
+    let best = plays.advance(ranks, &position, lower);
+    let recorded = plays_by(|roll| stored.play(roll));
+    if let Err(refused) = check_plays(lower, ranks, &position, &recorded, &best) {
+        return Err(of_refused(refused));
+    }
+    let words = if position.is_finished() {
+        [0; WORDS]
+    } else {
+        word_sums(lower, &recorded)
+    };
+    let rolls = most_rolls(position.pips());
+    let record = PlayedRecord {
+        lower,
+        stored,
+        position: &position,
+        plays: &recorded,
+        words: &words,
+        rolls,
+    };
+    match check_numbers(&record) {
+        Ok(()) => Ok(()),
+        Err(fault) => Err(fault),
+    }
 }

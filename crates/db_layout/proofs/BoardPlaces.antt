@@ -3,9 +3,13 @@ use Rattle.std.proofs.Common.{◌≡◌, ℕ, suc, ◌+◌, ◌*◌, ◌<◌, �
 use Rattle.race_model.specs.Positions.{pips}
 use Rattle.race_model.specs.Ranks.{at_rank}
 use Rattle.race_model.specs.BoardFiles.{board_length, board_place}
-use Rattle.race_model.proofs.RightFiles.Places.{board_place-by, place_by-next}
+use Rattle.race_model.proofs.RightFiles.Places.{board_place-by, place_by-most, place_by-next}
 use Rattle.db_layout.specs.declared.stated.Kind.TheVariants.{Board}
 use Rattle.db_layout.proofs.RecordPlaces.{length-most, place-most, place_before}
+
+-- no record begins in the header
+pub board_place-least : (r : ℕ) → 32 ≤ board_place r
+board_place-least r = omega (arith, board_place-by r, place_by-most board_length r)
 
 -- no record is longer than that of 90 pips
 pub board_length-most : (p : ℕ) → p ≤ 90 → board_length p ≤ 594

@@ -1,10 +1,10 @@
 -- What is known of the records of lower rank, where they meet their equations.
 use Rattle.std.proofs.Common.{◌≡◌, ℕ, zero, suc, cond, eq-eqb, ne_eqb, ◌+◌, ◌*◌, ◌^◌, ◌<◌, ◌≤◌, List, length}
-use Rattle.std.proofs.Common.{w64, refl, subst, sym, ap, ◌∙◌, arith}
+use Rattle.std.proofs.Common.{w64, refl, subst, sym, ap, ◌∙◌, ⊎_elim, arith}
 use Rattle.std.specs.Prelude.{Option, None, Some, IsSome, IfSome}
 use Rattle.std.specs.Option.{unwrap_or}
 use Rattle.std.specs.Int.{w128, from_be_bytes}
-use Rattle.std.proofs.lemmas.Bool.{false≢true, le-leb, lt-leb}
+use Rattle.std.proofs.lemmas.Bool.{false≢true, le-leb, lt-leb, cases_lt}
 use Rattle.race_model.specs.Positions.{Board, IsPosition, pips}
 use Rattle.race_model.specs.Ranks.{rank, at_rank}
 use Rattle.race_model.specs.Files.{bytes_at}
@@ -14,13 +14,25 @@ use Rattle.race_model.specs.BoardFiles.{count_place, mean_parts, count_parts, co
 use Rattle.race_model.specs.BoardEquations.{IsLocalOnBoard}
 use Rattle.race_model.proofs.Books.Boards.{counts_of_local}
 use Rattle.race_model.proofs.Ranks.PositionTotals.{rank-at_rank}
-use Rattle.race_model.proofs.Ranks.RankOrder.{at_rank_position, pips-range}
+use Rattle.race_model.proofs.Ranks.RankOrder.{at_rank_position, at_rank-rank, pips-range}
 use Rattle.race_model.proofs.Strategies.Horizons.{ends_in_33, most_rolls-board}
 use Rattle.race_model.proofs.Books.Bounded.{MeetsTo, mean-at_most, count-at_most}
 use Rattle.db_layout.proofs.ByteParts.{bytes_at-inner}
 use Rattle.db_layout.proofs.BoardPlaces.{board_place-rises}
 use Rattle.db_layout.proofs.SameFronts.{count-short}
 use Rattle.db_layout.specs.LowerRecords.{AreLocalTo, AreRecords, board_mean}
+
+-- what holds of the positions of the ranks below one, and of that of the rank, holds of one more
+pub accepted-more : (local : Board → Type 0) (r : ℕ)
+    → ((z : Board) → IsPosition z → rank z < r → local z)
+    → local (at_rank r) → (z : Board) → IsPosition z → rank z < r + 1 → local z
+accepted-more local r accepted here z at low = ⊎_elim
+    (λ less. accepted z at less)
+    (λ more.
+    let is : rank z ≡ r = omega arith in
+    let same : at_rank r ≡ z = ap at_rank (sym is) ∙ at_rank-rank z at in
+    subst local same here)
+    (cases_lt (rank z) r)
 
 -- what holds of something where there is one holds of what is taken in its place
 pub of_some : {T : Type 0} (P : T → Type 0) (found : Option T) (other : T) → IsSome found →
@@ -81,10 +93,11 @@ module _ (f : List ℕ) (n : ℕ) (few : n ≤ 54264) (local : AreLocalTo f n) w
         many le)
 
 -- the record of a rank lies within the bytes
-pub record-inside : (bytes offsets leading : List ℕ) → AreRecords bytes offsets leading → (r : ℕ) →
-    r < length offsets → board_place r + board_length (pips (at_rank r)) ≤ length bytes
-record-inside bytes offsets leading are r lt =
-    omega (arith, are.long, board_place-rises r (length offsets) lt)
+pub record-inside : (bytes : List ℕ) (n : ℕ) (offsets leading : List ℕ) →
+    AreRecords bytes n offsets leading → (r : ℕ) → r < n →
+    board_place r + board_length (pips (at_rank r)) ≤ length bytes
+record-inside bytes n offsets leading are r lt =
+    omega (arith, are.long, board_place-rises r n lt)
 
 -- the mean stands at the front of the record of a rank
 module _ (bytes : List ℕ) (offset r : ℕ) (begins : offset ≡ board_place r) where

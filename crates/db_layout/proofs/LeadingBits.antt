@@ -1,6 +1,6 @@
 -- The leading bits of means: lower ones are those of a lesser mean, and they are the same in bytes
 -- that begin alike.
-use Rattle.std.proofs.Common.{◌≡◌, ℕ, ◌-◌, ◌/◌, ◌^◌, ◌<◌, ◌≤◌, min, List, length, slice_index, take}
+use Rattle.std.proofs.Common.{◌≡◌, ℕ, ◌-◌, ◌/◌, ◌^◌, ◌<◌, ◌≤◌, min, List, slice_index, take}
 use Rattle.std.proofs.Common.{refl, ap, ◌∙◌, arith}
 use Rattle.std.specs.Int.{w128, from_be_bytes}
 use Rattle.race_model.specs.BoardFiles.{Parts, value_of_parts, mean_parts, board_place, board_record}
@@ -28,19 +28,19 @@ leads-agree f g n c same within r under =
     (omega (arith, within, board_place-rises r c under)))
 
 -- so they tell which of two ranks has the lesser mean
-pub leads-tell : (bytes offsets leading : List ℕ) → AreRecords bytes offsets leading →
-    (one other : ℕ) → one < length offsets →
-    other < length offsets → slice_index leading one < slice_index leading other →
+pub leads-tell : (bytes : List ℕ) (n : ℕ) (offsets leading : List ℕ) →
+    AreRecords bytes n offsets leading → (one other : ℕ) → one < n → other < n →
+    slice_index leading one < slice_index leading other →
     board_mean bytes one < board_mean bytes other
-leads-tell bytes offsets leading are one other in_one in_other less =
+leads-tell bytes n offsets leading are one other in_one in_other less =
     leads-less (mean_parts (board_record bytes one)) (mean_parts (board_record bytes other))
-    (mean-written bytes (length offsets) are.few are.local one in_one)
+    (mean-written bytes n are.few are.local one in_one)
     (same (is one in_one) (is other in_other) less)
   where
     same : {a b c d : ℕ} → a ≡ c → b ≡ d → a < b → c < d
     same first second lt = omega (arith, first, second, lt)
 
-    is : (r : ℕ) → r < length offsets → slice_index leading r
+    is : (r : ℕ) → r < n → slice_index leading r
         ≡ min ((mean_parts (board_record bytes r)).upper / 2 ^ 87) (2 ^ 32 - 1)
     is r under =
         are.lead r under

@@ -1,6 +1,6 @@
 -- The records of the ranks below one stand before its place. So they are the same in two lists of
 -- bytes that begin alike, and so is what they say: later bytes change nothing of lower ranks.
-use Rattle.std.proofs.Common.{◌≡◌, ℕ, ◌*◌, ◌-◌, ◌^◌, ◌<◌, ◌≤◌, List, take, refl, ap, subst, arith}
+use Rattle.std.proofs.Common.{◌≡◌, ℕ, ◌*◌, ◌-◌, ◌^◌, ◌<◌, ◌≤◌, List, length, take, refl, ap, subst, ◌∙◌, arith}
 use Rattle.race_model.specs.Positions.{Board, IsPosition, pips}
 use Rattle.race_model.specs.Dice.{Throw, roll_index}
 use Rattle.race_model.specs.Ranks.{rank, at_rank}
@@ -14,6 +14,8 @@ use Rattle.race_model.proofs.Books.SameRanks.{local-same}
 use Rattle.race_model.proofs.Ranks.BestPlays.{legal_lower, play-agree_reached}
 use Rattle.db_layout.proofs.BoardPlaces.{board_place-rises}
 use Rattle.db_layout.proofs.ByteParts.{bytes_at-agree}
+use Rattle.db_layout.proofs.LeadingBits.{leads-agree}
+use Rattle.db_layout.specs.LowerRecords.{AreRecords}
 
 -- the records of the ranks below one, in lists that begin alike up to its place
 pub records-agree : (f g : List ℕ) (n c : ℕ) → take n f ≡ take n g → board_place c ≤ n →
@@ -70,3 +72,18 @@ module _ (f g : List ℕ) (c : ℕ) (same : (r : ℕ) → r < c → board_record
           (λ r k less le. ap (λ n. n * 36 ^ (33 - k)) (count_at-agree r k less))
           x at under here.equations;
     }
+
+-- so bytes behind the records of the ranks below one may change
+pub records-stay : (f g : List ℕ) (n : ℕ) (offsets leading : List ℕ) →
+    take (board_place n) f ≡ take (board_place n) g → length f ≡ length g →
+    AreRecords f n offsets leading → AreRecords g n offsets leading
+records-stay f g n offsets leading front long are = record {
+  few = are.few;
+  long = omega (arith, are.long, long);
+  told = are.told;
+  begin = are.begin;
+  as_many = are.as_many;
+  lead = λ r less. are.lead r less ∙ leads-agree f g (board_place n) n front (omega arith) r less;
+  local = λ z at under. local-agree f g n
+      (records-agree f g (board_place n) n front (omega arith)) z at under (are.local z at under);
+}

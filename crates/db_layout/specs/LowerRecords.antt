@@ -24,13 +24,14 @@ leading_at bytes place = min (from_be_bytes w128 (bytes_at bytes place 16) / 2 ^
 
 -- the bytes hold the records of so many ranks, which meet their equations, and begin where it is
 -- said, with means of these leading bits
-pub record AreRecords (bytes offsets leading : List ℕ) : Type 0 where
-  pub few : length offsets ≤ 54264
-  pub long : board_place (length offsets) ≤ length bytes
-  pub begin : (r : ℕ) → r < length offsets → slice_index offsets r ≡ board_place r
-  pub as_many : length leading ≡ length offsets
-  pub lead : (r : ℕ) → r < length offsets → slice_index leading r ≡ leading_at bytes (board_place r)
-  pub local : AreLocalTo bytes (length offsets)
+pub record AreRecords (bytes : List ℕ) (count : ℕ) (offsets leading : List ℕ) : Type 0 where
+  pub few : count ≤ 54264
+  pub long : board_place count ≤ length bytes
+  pub told : count ≤ length offsets
+  pub begin : (r : ℕ) → r < count → slice_index offsets r ≡ board_place r
+  pub as_many : count ≤ length leading
+  pub lead : (r : ℕ) → r < count → slice_index leading r ≡ leading_at bytes (board_place r)
+  pub local : AreLocalTo bytes count
 
 -- the mean that is recorded for a rank
 abbrev pub board_mean : List ℕ → ℕ → ℕ

@@ -13,7 +13,7 @@ pub use board_record::{BoardRecord, Parts};
 pub use board_words::{WORDS, word_sums};
 pub use board_writing::{put_count, put_mean, put_plays};
 pub use header::{Header, HeaderFault, parse_header};
-pub use lower_records::{LowerRecords, leading_bits};
+pub use lower_records::{LowerRecords, RecordStarts};
 pub use places::{Place, most_rolls, record_length};
 pub use record::{HEADER_BYTES, RECORD_BYTES, RecordView, read_short};
 pub use stated::{BOARD_BOUND, BOARD_VERSION, COMPACT_VERSION, Kind, VERSION};

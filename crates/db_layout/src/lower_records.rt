@@ -1,9 +1,10 @@
 //! The records of lower rank, in bytes that begin as a board file does.
-ghost use Rattle.std.specs.Prelude.{◌≡◌, ℕ, ◌+◌, ◌<◌, ◌≤◌, length, slice_index, IsTrue, ◌↔◌};
+ghost use Rattle.std.specs.Prelude.{◌≡◌, ℕ, ◌+◌, ◌<◌, ◌≤◌, List, length, slice_index, IsTrue, ◌↔◌};
 ghost use Rattle.race_model.specs.Positions.{pips};
 ghost use Rattle.race_model.specs.Ranks.{at_rank};
 ghost use Rattle.race_model.specs.Files.{bytes_at};
 ghost use Rattle.race_model.specs.BoardFiles.{board_length, board_place, board_record};
+ghost use Rattle.race_model.specs.BoardEquations.{IsLocalOnBoard};
 ghost use Rattle.db_layout.specs.LowerRecords.{Lower, AreRecords, AreLocalTo, board_mean, leading_at};
 
 use crate::board_places::board_length;
@@ -12,6 +13,64 @@ use fixed_fraction::BoardMean;
 use least_plays::RankedMeans;
 use ranking::pips_of;
 use std::marker::Model;
+
+/// Where the records of the lowest ranks of a board file begin, with the leading bits of their means,
+/// for `COUNT` of them at most.
+#[derive(Drop)]
+pub struct RecordStarts<const COUNT: usize> {
+    pub offsets: [u32; COUNT],
+    pub leading: [u32; COUNT],
+    pub count: u16,
+}
+
+impl<const COUNT: usize> RecordStarts<COUNT> {
+    /// No record yet.
+    // so that it is made where it lies
+    #[inline(always)]
+    pub fn new() -> Self
+        ensures count { result.count ≡ 0 }
+        ensures records { (bytes : List ℕ) → 32 ≤ length bytes →
+            AreRecords bytes 0 result.offsets result.leading }
+    {
+        RecordStarts {
+            offsets: [0; COUNT],
+            leading: [0; COUNT],
+            count: 0,
+        }
+    }
+
+    /// The records that begin there.
+    #[inline(always)]
+    pub fn lower<'a>(&'a self, bytes: &'a [u8]) -> LowerRecords<'a>
+        requires { AreRecords bytes.now self.now.count self.now.offsets self.now.leading }
+        ensures { result ≡ record { bytes = bytes.now; count = self.now.count } }
+    {
+        LowerRecords {
+            bytes,
+            offsets: &self.offsets,
+            leading: &self.leading,
+            count: self.count,
+        }
+    }
+
+    /// One record more, which meets its equations and begins behind the others.
+    #[inline(always)]
+    pub fn push(&mut self, bytes: &[u8], offset: u64)
+        requires room { self.old.count < COUNT }
+        requires few { COUNT ≤ 54264 }
+        requires place { offset ≡ board_place self.old.count }
+        requires long { board_place (self.old.count + 1) ≤ length bytes.now }
+        requires records { AreRecords bytes.now self.old.count self.old.offsets self.old.leading }
+        requires local { IsLocalOnBoard bytes.now (at_rank self.old.count) }
+        ensures count { self.new.count ≡ self.old.count + 1 }
+        ensures records { AreRecords bytes.now self.new.count self.new.offsets self.new.leading }
+    {
+        let index = usize::from(self.count);
+        self.offsets[index] = offset as u32;
+        self.leading[index] = leading_bits(bytes, offset as usize);
+        self.count += 1;
+    }
+}
 
 /// The records of the lowest ranks of a board file, which meet their equations, with where each
 /// begins and the leading bits of its mean (`leading_bits`). No other number is copied, so each is
@@ -22,42 +81,29 @@ pub struct LowerRecords<'a> {
     bytes: &'a [u8],
     offsets: &'a [u32],
     leading: &'a [u32],
+    count: u16,
 }
 
 // Clauses see the bytes, and how many records they hold.
 impl<'a> Model for LowerRecords<'a> {
-    ghost use Rattle.std.specs.Prelude.{length};
     ghost use Rattle.db_layout.specs.LowerRecords.{Lower, AreRecords};
 
     ghost Value = { Lower };
 
-    ghost view = { λ lower. record { bytes = lower.bytes.now; count = length lower.offsets.now } };
+    ghost view = { λ lower. record { bytes = lower.bytes.now; count = lower.count } };
 
     ghost invariant = { λ lower.
-        AreRecords lower.bytes.now lower.offsets.now lower.leading.now };
+        AreRecords lower.bytes.now lower.count lower.offsets.now lower.leading.now };
 }
 
 impl<'a> LowerRecords<'a> {
-    /// The records that begin at these offsets, by rank, with the leading bits of their means.
-    pub fn new(bytes: &'a [u8], offsets: &'a [u32], leading: &'a [u32]) -> Self
-        requires { AreRecords bytes.now offsets.now leading.now }
-        ensures bytes { result.bytes ≡ bytes.now }
-        ensures count { result.count ≡ length offsets.now }
-    {
-        LowerRecords {
-            bytes,
-            offsets,
-            leading,
-        }
-    }
-
     /// How many they are. They meet their equations.
     pub fn count(&self) -> u16
         ensures count { result ≡ self.now.count }
         ensures few { self.now.count ≤ 54264 }
         ensures local { AreLocalTo self.now.bytes self.now.count }
     {
-        self.offsets.len() as u16
+        self.count
     }
 
     /// The same records, for a loop that writes elsewhere: so the compiler knows that it doesn't
@@ -70,6 +116,7 @@ impl<'a> LowerRecords<'a> {
             bytes: self.bytes,
             offsets: self.offsets,
             leading: self.leading,
+            count: self.count,
         }
     }
 
@@ -80,7 +127,7 @@ impl<'a> LowerRecords<'a> {
         ensures { result ≡ board_place (rank + 1) }
     {
         let place = usize::from(rank);
-        if place + 1 < self.offsets.len() {
+        if place + 1 < usize::from(self.count) {
             return self.offsets[place + 1] as usize;
         }
         self.offsets[place] as usize + board_length(pips_of(rank))
@@ -122,7 +169,7 @@ impl<'a> LowerRecords<'a> {
 
 /// The leading bits of the mean of the record that begins at a place: of two means the one with
 /// lower ones is less. As many as fit, of a number of at most 33 rolls.
-pub fn leading_bits(bytes: &[u8], place: usize) -> u32
+fn leading_bits(bytes: &[u8], place: usize) -> u32
     requires { place + 16 ≤ length bytes.now }
     ensures { result ≡ leading_at bytes.now place }
 {

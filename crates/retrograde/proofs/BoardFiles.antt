@@ -7,19 +7,15 @@ use Rattle.std.proofs.lemmas.Nat.{from_be_bytes-to_be_bytes_2}
 use Rattle.race_model.specs.Positions.{Board, IsPosition, pips}
 use Rattle.race_model.specs.Ranks.{rank, count_to}
 use Rattle.race_model.specs.Files.{IsBytes, bytes_at, bound_of}
-use Rattle.race_model.specs.BoardFiles.{board_header, board_length, board_place, IsBoardFile}
+use Rattle.race_model.specs.BoardFiles.{board_header, board_place, IsBoardFile}
 use Rattle.race_model.proofs.Ranks.RankOrder.{rank_bound}
-use Rattle.race_model.proofs.RightFiles.Places.{board_place-by, place_by-most}
 use Rattle.race_model.proofs.FirstFaults.HeaderFacts.{small_bytes}
 use Rattle.race_model.proofs.Books.Boards.{right_board}
+use Rattle.db_layout.proofs.BoardPlaces.{board_place-least}
 use Rattle.db_layout.proofs.ByteParts.{bytes_at-front}
 use Rattle.db_layout.proofs.SameRecords.{records-agree}
 use Rattle.retrograde.specs.BuiltBoards.{IsBuiltTo, IsBuiltBoard}
 use Rattle.retrograde.proofs.NextBoardRecords.{built-agree}
-
--- no record begins in the header
-pub header_before : (r : ℕ) → 32 ≤ board_place r
-header_before r = omega (arith, board_place-by r, place_by-most board_length r)
 
 -- bytes that begin with the header of a bound, and whose number is that of its file
 module _ (f : List ℕ) (b : ℕ) (low : b ≤ 90) (headed : take 32 f ≡ board_header b)
@@ -68,7 +64,7 @@ pub built_in_room : (room : List ℕ) (b total : ℕ) → IsBytes room → b ≤
 built_in_room room b total small low counted headed long built =
     let f = take (board_place total) room in
     built_board f b low
-    (take-take 32 (board_place total) room (header_before total) ∙ headed)
+    (take-take 32 (board_place total) room (board_place-least total) ∙ headed)
     (length-take-le (board_place total) room long ∙ ap board_place counted)
     (small_bytes room 0 (board_place total) small)
     (subst (IsBuiltTo f) counted

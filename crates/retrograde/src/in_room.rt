@@ -11,9 +11,7 @@ ghost use Rattle.retrograde.specs.BuiltBoards.{IsBuiltBoard, IsBoardRefusedBy};
 use crate::board_build_fault::BoardBuildFault;
 use crate::board_record::put_record;
 use crate::level::{add_level, level_place, put_bytes};
-use db_layout::{
-    BOARD_VERSION, BoardHeader, Header, Kind, LowerRecords, header_bytes, leading_bits,
-};
+use db_layout::{BOARD_VERSION, BoardHeader, Header, Kind, RecordStarts, header_bytes};
 use fixed_fraction::Scaled;
 use least_plays::{LeastPlays, ROWS_TO_8, ROWS_TO_90};
 use ranking::Ranks;
@@ -130,7 +128,7 @@ pub fn build_board(bound: u8, room: &mut [u8]) -> Result<usize, BoardBuildFault>
 }
 
 /// Builds the file with this header in a room that is no smaller, with so many rows for the best
-/// plays, and so many offsets of records and leading bits of their means.
+/// plays, and so many starts of records.
 // so that no more rows are on the stack than are needed
 #[inline(never)]
 fn fill_board<const ROWS: usize, const COUNT: usize>(header: &BoardHeader, room: &mut [u8])
@@ -148,19 +146,16 @@ fn fill_board<const ROWS: usize, const COUNT: usize>(header: &BoardHeader, room:
     put_bytes(room, 0, &header.to_bytes());
     let ranks = Ranks::new();
     let mut least: LeastPlays<ROWS> = LeastPlays::new();
-    let mut offsets = [0; COUNT];
-    let mut leading = [0; COUNT];
+    let mut starts: RecordStarts<COUNT> = RecordStarts::new();
     for rank in 0..header.count {
-        let index = usize::from(rank);
         let place = Kind::Board.find(BOARD_VERSION, header.bound, rank);
         let start = place.offset as usize;
         let position = ranks.unrank(rank).unwrap();
-        let lower = LowerRecords::new(room, &offsets[..index], &leading[..index]);
+        let lower = starts.lower(room);
         let plays = least.advance(&ranks, &position, &lower);
         let mut bytes = [0; BOARD_RECORD_BYTES];
         put_record(&mut bytes, &lower, &position, &plays);
         put_bytes(room, start, &bytes[..place.length as usize]);
-        offsets[index] = place.offset as u32;
-        leading[index] = leading_bits(room, start);
+        starts.push(room, place.offset);
     }
 }

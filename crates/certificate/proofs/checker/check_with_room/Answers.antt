@@ -9,7 +9,8 @@ use Rattle.certificate.specs.CheckFaults.{IsFirst}
 use Rattle.certificate.specs.KeptMeans.{kept_mean}
 use Rattle.certificate.specs.LowerRecords.{IsLower}
 use Rattle.db_reader.proofs.Failures.{err-same, table_first, table_then, table_as, table_more}
-use Rattle.certificate.proofs.FileTests.{answers, fault-of_file, fault-read, accepted-more, local-of_all}
+use Rattle.db_layout.proofs.KnownRecords.{accepted-more}
+use Rattle.certificate.proofs.FileTests.{answers, fault-of_file, fault-read, local-of_all}
 use Rattle.certificate.proofs.checker.check_with_room.Goals as goal
 
 pub check_record-requires : goal.check_record-requires

@@ -1,8 +1,7 @@
-use Rattle.std.proofs.Common.{◌≡◌, ℕ, ◌<◌, length, take, drop}
-use Rattle.std.specs.Prelude.{slice_index}
+use Rattle.std.proofs.Common.{◌≡◌, length, take, drop}
 use Rattle.race_model.specs.BoardFiles.{board_header, board_place}
 use Rattle.least_plays.specs.Known.{Knows}
-use Rattle.db_layout.specs.LowerRecords.{board_mean, leading_at}
+use Rattle.db_layout.specs.LowerRecords.{AreRecords, board_mean}
 use Rattle.retrograde.specs.BuiltBoards.{IsBuiltTo}
 use Rattle.retrograde.proofs.in_room.fill_board.Given as goal
 
@@ -10,11 +9,9 @@ use Rattle.retrograde.proofs.in_room.fill_board.Given as goal
 abbrev pub invariant-loop-rank : goal.invariant-loop-rank
 invariant-loop-rank g l = record {
   len : length l.room ≡ length l.fn.room;
-  many : length l.offsets ≡ g.row.COUNT;
-  as_many : length l.leading ≡ g.row.COUNT;
   headed : take 32 l.room ≡ board_header l.fn.header.bound;
-  begin : (r : ℕ) → r < l.rank → slice_index l.offsets r ≡ board_place r;
-  lead : (r : ℕ) → r < l.rank → slice_index l.leading r ≡ leading_at l.room (board_place r);
+  counted : l.starts.count ≡ l.rank;
+  records : AreRecords l.room l.rank l.starts.offsets l.starts.leading;
   built : IsBuiltTo l.room l.rank;
   known : Knows (board_mean l.room) l.least l.rank;
   rest : drop (board_place l.fn.header.count) l.room

@@ -10,7 +10,7 @@ use Rattle.db_layout.proofs.lower_records.LowerRecords.mean_at.Goals as goal
 
 -- where the record of the rank stands
 module _ (c : After-self) where
-  below : c.args.rank < length c.self.inside.offsets.now
+  below : c.args.rank < c.self.inside.count
   below = omega (arith, c.requires, ap (λ (l : Lower). l.count) c.self.view_is)
 
   begins : slice_index c.self.inside.offsets.now c.from.result ≡ board_place c.args.rank
@@ -21,8 +21,8 @@ module _ (c : After-self) where
   inside : board_place c.args.rank + board_length (pips (at_rank c.args.rank))
       ≤ length c.self.inside.bytes.now
   inside =
-      record-inside c.self.inside.bytes.now c.self.inside.offsets.now c.self.inside.leading.now
-      c.self.invariant c.args.rank below
+      record-inside c.self.inside.bytes.now c.self.inside.count c.self.inside.offsets.now
+      c.self.inside.leading.now c.self.invariant c.args.rank below
 
   long : 66 ≤ board_length (pips (at_rank c.args.rank))
   long = omega arith
@@ -62,7 +62,7 @@ module _ (c : After-read_long-lower) where
       omega (
         arith,
         lower_is,
-        mean-written c.self.inside.bytes.now (length c.self.inside.offsets.now) known.few
+        mean-written c.self.inside.bytes.now c.self.inside.count known.few
             known.local c.args.rank (below here),
       )
 
@@ -73,7 +73,7 @@ module _ (c : After-read_long-lower) where
         arith,
         upper_is,
         lower_is,
-        mean-most c.self.inside.bytes.now (length c.self.inside.offsets.now) known.few known.local
+        mean-most c.self.inside.bytes.now c.self.inside.count known.few known.local
             c.args.rank (below here),
       )
 

@@ -1,5 +1,5 @@
 -- The bytes of a record lie within those of the file.
-use Rattle.std.proofs.Common.{◌≡◌, ◌-◌, ◌<◌, length, slice_index, ap, ap₂, ◌∙◌, arith}
+use Rattle.std.proofs.Common.{◌≡◌, ◌-◌, ◌<◌, slice_index, ap, ap₂, ◌∙◌, arith}
 use Rattle.race_model.specs.Positions.{pips}
 use Rattle.race_model.specs.Ranks.{at_rank}
 use Rattle.race_model.specs.Files.{bytes_at}
@@ -12,7 +12,7 @@ use Rattle.db_layout.proofs.lower_records.LowerRecords.record.Goals as goal
 
 -- where it begins, and how long it is
 module _ (c : After-end_of) where
-  below : c.args.rank < length c.self.inside.offsets.now
+  below : c.args.rank < c.self.inside.count
   below = omega (arith, c.requires, ap (λ (l : Lower). l.count) c.self.view_is)
 
   begins : slice_index c.self.inside.offsets.now c.from.result ≡ board_place c.args.rank
@@ -36,8 +36,8 @@ part_of-requires c =
       arith,
       begins here,
       length_is here,
-      record-inside c.self.inside.bytes.now c.self.inside.offsets.now c.self.inside.leading.now
-          c.self.invariant c.args.rank (below here),
+      record-inside c.self.inside.bytes.now c.self.inside.count c.self.inside.offsets.now
+          c.self.inside.leading.now c.self.invariant c.args.rank (below here),
     )
 
 pub returns-clause-bytes : goal.returns-clause-bytes

@@ -16,17 +16,17 @@ use Rattle.certificate.proofs.BoardNumberTests.{below-are}
 use Rattle.certificate.proofs.RecordTests.{ArePlays, plays-hold, least-mean, first-refused, first-number}
 use Rattle.db_layout.specs.LowerRecords.{board_mean}
 use Rattle.least_plays.specs.Recorded.{IsLeastPlay}
-use Rattle.certificate.proofs.board_checker.check_record.Goals.{After-plays_by-recorded}
-use Rattle.certificate.proofs.board_checker.check_record.Goals.{then-is_finished, else-is_finished}
-use Rattle.certificate.proofs.board_checker.check_record.Goals as goal
+use Rattle.certificate.proofs.record_check.check_board_record.Goals.{After-plays_by-recorded}
+use Rattle.certificate.proofs.record_check.check_board_record.Goals.{then-is_finished, else-is_finished}
+use Rattle.certificate.proofs.record_check.check_board_record.Goals as goal
 
 module _ (c : After-plays_by-recorded) where
   -- the position is that of the rank
-  same : c.unwrap-position.result ≡ at_rank c.args.rank
-  same = rw c.unwrap-position.ensures at c.unrank.ensures.value
+  same : c.unwrap-position.result ≡ at_rank c.args.lower.now.count
+  same = rw (c.unwrap-position.ensures, c.count.ensures.count) at c.unrank.ensures.value
 
-  ranked : rank c.unwrap-position.result ≡ c.args.rank
-  ranked = rw c.unwrap-position.ensures at c.unrank.ensures.ranked
+  ranked : rank c.unwrap-position.result ≡ c.args.lower.now.count
+  ranked = rw (c.unwrap-position.ensures, c.count.ensures.count) at c.unrank.ensures.ranked
 
   at : IsPosition c.unwrap-position.result
   at = rw c.unwrap-position.ensures at c.unrank.ensures.position
@@ -59,22 +59,23 @@ module _ (c : After-plays_by-recorded) where
       (slice_index c.plays_by-recorded.result)
   tested least = record {
     position = at;
-    next = ranked ∙ c.requires.rank;
+    next = ranked;
     pips_are = c.requires.pips ∙ ap pips (sym same);
     bytes = c.requires.bytes ∙ ap (board_record c.args.lower.now.bytes) (sym ranked);
     read = read;
     held = held-here least;
-    local = c.count-count.ensures.local;
+    local = c.count.ensures.local;
   }
 
 pub returns-in-Err-clause-first : goal.returns-in-Err-clause-first
 returns-in-Err-clause-first c lt =
     let here = (goal.at.returns-in-Err-clause-first c).After-plays_by-recorded in
     let f = c.args.lower.now.bytes in
-    subst (IsFirstFaultOnBoardAt f c.args.rank) (sym c.of_refused.ensures)
+    subst (IsFirstFaultOnBoardAt f c.args.lower.now.count) (sym c.of_refused.ensures)
     (first-refused (board_book f) c.unwrap-position.result
     (slice_index c.plays_by-recorded.result) (read here) (at here) (board_mean f)
-    (λ _ v z legal. refl) (HoldsOnBoard f) ⊥ c.args.rank lt (same here) (λ i. (λ h. h, λ h. h))
+    (λ _ v z legal. refl) (HoldsOnBoard f) ⊥ c.args.lower.now.count lt (same here)
+    (λ i. (λ h. h, λ h. h))
     (λ i. (λ h. h, λ h. h)) c.in-Err.refused (c.in-Err.ensures {u = tt}).fault)
 
 pub word_sums-words-requires : goal.word_sums-words-requires
@@ -112,8 +113,8 @@ pub returns-in-Err-check_numbers-clause-first : goal.returns-in-Err-check_number
 returns-in-Err-check_numbers-clause-first c lt =
     let here = (goal.at.returns-in-Err-check_numbers-clause-first c).After-plays_by-recorded in
     let f = c.args.lower.now.bytes in
-    let x = at_rank c.args.rank in
-    first-number (board_book f) (HoldsOnBoard f) ⊥ c.args.rank lt
+    let x = at_rank c.args.lower.now.count in
+    first-number (board_book f) (HoldsOnBoard f) ⊥ c.args.lower.now.count lt
     (subst (ArePlays (board_book f)) (same here)
     (held-here here (c.in_default.ensures {u = tt}).least))
     (MeanHolds f x) (CountHolds f x) (λ h. h, λ h. h) asked c.in-Err-check_numbers.fault
@@ -121,8 +122,9 @@ returns-in-Err-check_numbers-clause-first c lt =
     c.in-Err-check_numbers.fault) (same here) (c.in-Err-check_numbers.ensures {u = tt}).fault)
   where
     -- what is tested of a count is asked of it: the equation of shares is that of counts
-    asked : (k : ℕ) → k ≤ 33 → CountHolds c.args.lower.now.bytes (at_rank c.args.rank) k
-        ↔ HoldsOnBoard c.args.lower.now.bytes (spread_test c.args.rank k)
+    asked : (k : ℕ) → k ≤ 33 → CountHolds c.args.lower.now.bytes (at_rank c.args.lower.now.count) k
+        ↔ HoldsOnBoard c.args.lower.now.bytes (spread_test c.args.lower.now.count k)
     asked k few =
-        let same = board_share_is_count c.args.lower.now.bytes (at_rank c.args.rank) k few in
+        let same =
+        board_share_is_count c.args.lower.now.bytes (at_rank c.args.lower.now.count) k few in
         (λ counted. (counted.0, same.1 counted.1), λ holds. (holds.0, same.0 holds.1))
