@@ -1,10 +1,11 @@
 //! The records of lower rank, in bytes that begin as a board file does.
-ghost use Rattle.std.specs.Prelude.{◌≡◌, ℕ, ◌+◌, ◌<◌, ◌≤◌, List, length, slice_index, IsTrue, ◌↔◌};
+ghost use Rattle.std.specs.Prelude.{◌≡◌, ℕ, ◌+◌, ◌<◌, ◌≤◌, List, length, slice_index};
 ghost use Rattle.race_model.specs.Positions.{pips};
 ghost use Rattle.race_model.specs.Ranks.{at_rank};
 ghost use Rattle.race_model.specs.Files.{bytes_at};
 ghost use Rattle.race_model.specs.BoardFiles.{board_length, board_place, board_record};
 ghost use Rattle.race_model.specs.BoardEquations.{IsLocalOnBoard};
+ghost use Rattle.least_plays.specs.Firsts.{IsBetterOf};
 ghost use Rattle.db_layout.specs.LowerRecords.{Lower, AreRecords, AreLocalTo, board_mean, leading_at};
 
 use crate::board_places::board_length;
@@ -14,8 +15,8 @@ use least_plays::RankedMeans;
 use ranking::pips_of;
 use std::marker::Model;
 
-/// Where the records of the lowest ranks of a board file begin, with the leading bits of their means,
-/// for `COUNT` of them at most.
+/// Where the records of the lowest ranks of a board file begin, with the leading bits of their
+/// means, for `COUNT` of them at most.
 #[derive(Drop)]
 pub struct RecordStarts<const COUNT: usize> {
     pub offsets: [u32; COUNT],
@@ -155,15 +156,18 @@ impl<'a> LowerRecords<'a> {
         BoardMean::of_parts(upper, lower)
     }
 
-    /// Whether the mean of a rank is less than that of another, by all their bits.
+    /// Of two ranks the better one, by all bits of their means.
     #[inline(never)]
-    fn is_less_by_all(&self, one: u16, other: u16) -> bool
+    fn better_by_all(&self, one: u16, other: u16) -> u16
         requires one { one < self.now.count }
         requires other { other < self.now.count }
-        ensures { IsTrue result
-            ↔ (board_mean self.now.bytes one < board_mean self.now.bytes other) }
+        ensures { IsBetterOf (board_mean self.now.bytes) one other result }
     {
-        self.mean_at(one).is_less(self.mean_at(other))
+        if self.is_less(one, other) || (one < other && !self.is_less(other, one)) {
+            one
+        } else {
+            other
+        }
     }
 }
 
@@ -192,13 +196,22 @@ impl<'a> RankedMeans for LowerRecords<'a> {
 
     ghost count = { λ lower. lower.count };
 
-    #[inline(always)]
     fn is_less(&self, one: u16, other: u16) -> bool {
+        self.mean_at(one).is_less(self.mean_at(other))
+    }
+
+    #[inline(always)]
+    fn better(&self, one: u16, other: u16) -> u16 {
         let here = self.leading[usize::from(one)];
         let there = self.leading[usize::from(other)];
-        if here == there {
-            return self.is_less_by_all(one, other);
+        if here < there {
+            one
+        } else if there < here {
+            other
+        } else if one == other {
+            one
+        } else {
+            self.better_by_all(one, other)
         }
-        here < there
     }
 }

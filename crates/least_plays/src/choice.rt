@@ -4,25 +4,6 @@ ghost use Rattle.least_plays.specs.Firsts.{IsBetterOf};
 
 use crate::RankedMeans;
 
-/// Of two ranks the one of smaller mean and, of equal means, the lower one.
-pub fn better<M: RankedMeans>(one: u16, other: u16, means: &M) -> u16
-    requires one { one < M.count means.now }
-    requires other { other < M.count means.now }
-    ensures { IsBetterOf (M.mean means.now) one other result }
-{
-    if one == other {
-        return one;
-    }
-    if means.is_less(one, other) {
-        return one;
-    }
-    if means.is_less(other, one) || other < one {
-        other
-    } else {
-        one
-    }
-}
-
 /// The better of each two of nine ranks and nine others.
 // one after the other, since a loop would keep both lists in memory
 #[inline(always)]
@@ -35,14 +16,14 @@ pub fn better_of_each<M: RankedMeans>(ones: &[u16; 9], others: &[u16; 9], means:
     ensures len { length result ≡ 9 }
 {
     [
-        better(ones[0], others[0], means),
-        better(ones[1], others[1], means),
-        better(ones[2], others[2], means),
-        better(ones[3], others[3], means),
-        better(ones[4], others[4], means),
-        better(ones[5], others[5], means),
-        better(ones[6], others[6], means),
-        better(ones[7], others[7], means),
-        better(ones[8], others[8], means),
+        means.better(ones[0], others[0]),
+        means.better(ones[1], others[1]),
+        means.better(ones[2], others[2]),
+        means.better(ones[3], others[3]),
+        means.better(ones[4], others[4]),
+        means.better(ones[5], others[5]),
+        means.better(ones[6], others[6]),
+        means.better(ones[7], others[7]),
+        means.better(ones[8], others[8]),
     ]
 }

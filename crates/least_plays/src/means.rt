@@ -1,5 +1,6 @@
 //! Means by rank, as the search for best plays asks for them.
 ghost use Rattle.std.specs.Prelude.{ℕ, ◌<◌, ◌↔◌, IsTrue};
+ghost use Rattle.least_plays.specs.Firsts.{IsBetterOf};
 
 /// The means of positions by rank: by which of them the best plays are found.
 pub trait RankedMeans {
@@ -14,4 +15,23 @@ pub trait RankedMeans {
         requires one { one < count self.now }
         requires other { other < count self.now }
         ensures { IsTrue result ↔ (mean self.now one < mean self.now other) };
+
+    /// Of two ranks the one of smaller mean and, of equal means, the lower one.
+    fn better(&self, one: u16, other: u16) -> u16
+        requires one { one < count self.now }
+        requires other { other < count self.now }
+        ensures { IsBetterOf (mean self.now) one other result }
+    {
+        if one == other {
+            return one;
+        }
+        if self.is_less(one, other) {
+            return one;
+        }
+        if self.is_less(other, one) || other < one {
+            other
+        } else {
+            one
+        }
+    }
 }

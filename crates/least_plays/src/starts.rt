@@ -5,7 +5,6 @@ ghost use Rattle.race_model.specs.BestPlays.{IsBestPlay};
 ghost use Rattle.least_plays.specs.Known.{AreStarts};
 
 use crate::RankedMeans;
-use crate::choice::better;
 use home_board::Position;
 
 /// The places of the greater die of each roll, by the roll's index.
@@ -55,7 +54,7 @@ impl Starts {
         if high == low {
             return first;
         }
-        better(first, self.dice[low].plays[high], means)
+        means.better(first, self.dice[low].plays[high])
     }
 
     /// The best plays of the 21 rolls.
