@@ -16,10 +16,10 @@ use Rattle.race_model.proofs.Books.Boards.{counts_of_local}
 use Rattle.race_model.proofs.Ranks.PositionTotals.{rank-at_rank}
 use Rattle.race_model.proofs.Ranks.RankOrder.{at_rank_position, at_rank-rank, pips-range}
 use Rattle.race_model.proofs.Strategies.Horizons.{ends_in_33, most_rolls-board}
+use Rattle.race_model.proofs.RightFiles.CountParts.{count-short, told_some}
 use Rattle.race_model.proofs.Books.Bounded.{MeetsTo, mean-at_most, count-at_most}
 use Rattle.db_layout.proofs.ByteParts.{bytes_at-inner}
 use Rattle.db_layout.proofs.BoardPlaces.{board_place-rises}
-use Rattle.db_layout.proofs.SameFronts.{count-short}
 use Rattle.db_layout.specs.LowerRecords.{AreLocalTo, AreRecords, board_mean}
 
 -- what holds of the positions of the ranks below one, and of that of the rank, holds of one more
@@ -148,10 +148,7 @@ module _ (f : List ℕ) (r : ℕ) where
   pub told-within : (k : ℕ) → 0 < k → k ≤ most_rolls (pips (at_rank r)) →
       count_at f r k ≡ value_of_parts (count_parts (board_record f r) k)
   unfolding count_at
-  told-within zero some within = absurd (omega arith)
-  told-within (suc k) some within =
-      ap (λ b. cond b (value_of_parts (count_parts (board_record f r) (suc k))) 0)
-      (le-leb (suc k) (most_rolls (pips (at_rank r))) within)
+  told-within k = told_some (pips (at_rank r)) k (board_record f r)
 
   -- .. to 11 throws
   pub told-short : (k : ℕ) → 0 < k → k ≤ most_rolls (pips (at_rank r)) → k ≤ 11 →

@@ -1,12 +1,13 @@
 -- What is read in the first bytes of a list is the same in each list that begins with these; and
 -- what ends alike.
-use Rattle.std.proofs.Common.{◌≡◌, ◌⊎◌, ⊎_elim, ℕ, ◌+◌, ◌-◌, ◌*◌, ◌<◌, ◌≤◌, List, take, drop}
-use Rattle.std.proofs.Common.{refl, ap, ap₂, sym, ◌∙◌, arith}
-use Rattle.std.proofs.lemmas.Bool.{le-leb, lt-leb}
+use Rattle.std.proofs.Common.{◌≡◌, ℕ, ◌+◌, ◌-◌, ◌*◌, ◌≤◌, List, take, drop}
+use Rattle.std.proofs.Common.{refl, ap, sym, ◌∙◌, arith}
 use Rattle.std.proofs.lemmas.List.{drop-drop}
 use Rattle.std.specs.Int.{w16, w64, w128, from_be_bytes}
 use Rattle.race_model.specs.Files.{bytes_at}
-use Rattle.race_model.specs.BoardFiles.{Parts, count_place, mean_parts, board_play_of, count_parts}
+use Rattle.race_model.specs.BoardFiles.{count_place, mean_parts, board_play_of, count_parts}
+use Rattle.race_model.proofs.RightFiles.CountParts.{same_parts, by_throws}
+use Rattle.race_model.proofs.RightFiles.CountParts.{count-short, count-middle, count-long}
 use Rattle.db_layout.proofs.ByteParts.{bytes_at-agree, front-agree}
 use Rattle.db_layout.specs.BoardRecords.{KeepsBefore}
 
@@ -35,39 +36,6 @@ pub rest_stays : (m n : ℕ) (old mid new : List ℕ) → m ≤ n → drop m mid
     drop n new ≡ drop n mid → drop n new ≡ drop n old
 rest_stays m n old mid new le first second = second ∙ rest-agree mid old m n le first
 
--- the count in the bytes of a record, to 11 throws, to 22 and to 33
-pub count-short : (bs : List ℕ) (k : ℕ) → k ≤ 11 →
-    count_parts bs k
-    ≡ record { upper = 0; lower = from_be_bytes w64 (bytes_at bs (count_place k) 8) }
-unfolding count_parts
-count-short bs k few = rw (le-leb k 11 few) refl
-
-pub count-middle : (bs : List ℕ) (k : ℕ) → 11 < k → k ≤ 22 →
-    count_parts bs k
-    ≡ record {
-      upper = from_be_bytes w64 (bytes_at bs (count_place k) 8);
-      lower = from_be_bytes w64 (bytes_at bs (count_place k + 8) 8);
-    }
-unfolding count_parts
-count-middle bs k many few = rw (lt-leb k 11 many, le-leb k 22 few) refl
-
-pub count-long : (bs : List ℕ) (k : ℕ) → 22 < k →
-    count_parts bs k
-    ≡ record {
-      upper = from_be_bytes w128 (bytes_at bs (count_place k) 16);
-      lower = from_be_bytes w64 (bytes_at bs (count_place k + 16) 8);
-    }
-unfolding count_parts
-count-long bs k many = rw (lt-leb k 11 (omega arith), lt-leb k 22 many) refl
-
--- two parts
-abbrev pub parts_of : ℕ → ℕ → Parts
-parts_of upper lower = record { upper = upper; lower = lower }
-
--- .. that are alike
-pub same_parts : {a b c d : ℕ} → a ≡ b → c ≡ d → parts_of a c ≡ parts_of b d
-same_parts e r = ap₂ parts_of e r
-
 -- what a record says in its first bytes, in two lists that begin alike
 module _ (f g : List ℕ) (n : ℕ) (same : take n f ≡ take n g) where
   -- the mean
@@ -86,13 +54,12 @@ module _ (f g : List ℕ) (n : ℕ) (same : take n f ≡ take n g) where
 
   -- a count
   pub count-agree : (k : ℕ) → 1 ≤ k → count_place (k + 1) ≤ n → count_parts f k ≡ count_parts g k
-  count-agree k some within = ⊎_elim
+  count-agree k some within = by_throws k
       (λ few.
       count-short f k few
       ∙ same_parts refl (word (count_place k) (omega arith))
       ∙ sym (count-short g k few))
-      (λ many. ⊎_elim
-      (λ few.
+      (λ many few.
       count-middle f k many few
       ∙ same_parts (word (count_place k) (omega arith)) (word (count_place k + 8) (omega arith))
       ∙ sym (count-middle g k many few))
@@ -102,12 +69,7 @@ module _ (f g : List ℕ) (n : ℕ) (same : take n f ≡ take n g) where
       (ap (from_be_bytes w128) (bytes_at-agree f g n (count_place k) 16 same (omega arith)))
       (word (count_place k + 16) (omega arith))
       ∙ sym (count-long g k more))
-      (split k 22))
-      (split k 11)
     where
       word : (place : ℕ) → place + 8 ≤ n →
           from_be_bytes w64 (bytes_at f place 8) ≡ from_be_bytes w64 (bytes_at g place 8)
       word place inside = ap (from_be_bytes w64) (bytes_at-agree f g n place 8 same inside)
-
-      split : (a b : ℕ) → (a ≤ b) ⊎ (b < a)
-      split a b = grind arith

@@ -11,7 +11,7 @@ use Rattle.race_model.specs.Horizon.{most_rolls}
 use Rattle.race_model.specs.Ranks.{at_rank}
 use Rattle.race_model.specs.Files.{bytes_at}
 use Rattle.race_model.specs.BoardFiles.{Parts, board_length, board_record, count_place, count_parts, count_at}
-use Rattle.db_layout.proofs.SameFronts.{count-middle}
+use Rattle.race_model.proofs.RightFiles.CountParts.{count-middle}
 use Rattle.db_layout.specs.LowerRecords.{AreLocalTo}
 use Rattle.db_layout.specs.BoardWords.{word_at, word_of}
 use Rattle.db_layout.proofs.ByteParts.{bytes_at-inner}

@@ -7,6 +7,7 @@ pub mod Built
 pub mod Places
 pub mod ToldRecords
 pub mod Fields
+pub mod CountParts
 pub mod SameBytes
 pub mod ToldShares
 pub mod SameNumbers

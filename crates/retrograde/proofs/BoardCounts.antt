@@ -3,8 +3,9 @@ use Rattle.std.proofs.Common.{◌≡◌, ⊎_elim, ℕ, suc, ◌+◌, ◌*◌, �
 use Rattle.std.proofs.Common.{sym, subst, ◌∙◌, arith}
 use Rattle.std.proofs.lemmas.Bool.{cases_lt}
 use Rattle.race_model.specs.BoardFiles.{Parts, value_of_parts, count_place, count_parts}
+use Rattle.race_model.proofs.RightFiles.CountParts.{parts_of}
 use Rattle.db_layout.specs.BoardRecords.{KeepsBefore}
-use Rattle.db_layout.proofs.SameFronts.{parts_of, count-agree}
+use Rattle.db_layout.proofs.SameFronts.{count-agree}
 
 -- one count more
 module _ (old new : List ℕ) (k upper lower : ℕ) (kept : KeepsBefore (count_place (k + 1)) old new)

@@ -16,4 +16,3 @@ pub mod BoardResults
 pub mod BoardCounts
 pub mod NextBoardRecords
 pub mod BoardFiles
-pub mod UniqueBoards

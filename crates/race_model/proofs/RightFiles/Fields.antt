@@ -1,14 +1,17 @@
 -- Two lists of bytes that state the same numbers, one behind the other, are the same.
 use Rattle.std.proofs.Common.{◌≡◌, ◌⊎◌, ⊎_elim, ℕ, zero, suc, ◌+◌, ◌*◌, ◌<◌, ◌≤◌, List, ◌++◌, length}
-use Rattle.std.proofs.Common.{get_or, take, ap₂, sym, subst, ◌∙◌, arith, ext_get_or}
+use Rattle.std.proofs.Common.{get_or, take, refl, ap, ap₂, sym, subst, ◌∙◌, arith, ext_get_or}
 use Rattle.std.specs.Int.{w16, w64, w128, from_be_bytes}
 use Rattle.std.proofs.Math.Seq.{take-add}
 use Rattle.std.proofs.lemmas.List.{take_all}
-use Rattle.race_model.specs.Positions.{pips}
-use Rattle.race_model.specs.Ranks.{at_rank}
-use Rattle.race_model.specs.Files.{IsBytes, bytes_at, place_by}
+use Rattle.race_model.specs.Positions.{Board, IsPosition, pips}
+use Rattle.race_model.specs.Ranks.{rank, at_rank, count_to}
+use Rattle.race_model.specs.Files.{Layout, IsBytes, IsFileBy, bytes_at, bound_of, place_by, header_by}
 use Rattle.race_model.proofs.FirstFaults.HeaderFacts.{small_bytes}
-use Rattle.race_model.proofs.RightFiles.Places.{length-bytes_at, place_by-first, place_by-next}
+use Rattle.race_model.proofs.FirstFaults.Questions.{within_bound}
+use Rattle.race_model.proofs.Ranks.RankOrder.{rank_bound}
+use Rattle.race_model.proofs.Ranks.PositionTotals.{rank-at_rank, count_to-most}
+use Rattle.race_model.proofs.RightFiles.Places.{length-bytes_at, length-record_by, place_by-first, place_by-next}
 
 -- the number of digits to the base 256, the highest first
 abbrev horner : (ℕ → ℕ) → ℕ → ℕ
@@ -46,10 +49,10 @@ by_sixteen : (xs : List ℕ) → from_be_bytes w128 xs ≡ made_by xs 15
 unfolding made_by
 by_sixteen xs = omega arith
 
--- two lists of no fewer bytes
+-- two lists of so many bytes
 pub record AreBytes (size : ℕ) (f g : List ℕ) : Type 0 where
-  pub long_f : size ≤ length f
-  pub long_g : size ≤ length g
+  pub long_f : length f ≡ size
+  pub long_g : length g ≡ size
   pub small_f : IsBytes f
   pub small_g : IsBytes g
 
@@ -64,76 +67,111 @@ further f g p n same e =
     take-add p n f ∙ ap₂ (λ (xs ys : List ℕ). xs ++ ys) same e ∙ sym (take-add p n g)
 
 -- .. to their end
-pub same_whole : (f g : List ℕ) (n : ℕ) → length f ≡ n → length g ≡ n → AreSameTo f g n → f ≡ g
-same_whole f g n long_f long_g same =
+same_whole : (n : ℕ) (f g : List ℕ) → length f ≡ n → length g ≡ n → AreSameTo f g n → f ≡ g
+same_whole n f g long_f long_g same =
     sym (take_all n f (omega (arith, long_f))) ∙ same ∙ take_all n g (omega (arith, long_g))
 
 module _ {size : ℕ} {f g : List ℕ} (two : AreBytes size f g) where
   -- the same number there
-  number : (n p : ℕ) → p + suc n ≤ size →
+  number : {q : ℕ} (n p : ℕ) → p + suc n ≡ q → q ≤ size →
       made_by (bytes_at f p (suc n)) n ≡ made_by (bytes_at g p (suc n)) n → AreSameTo f g p →
-      AreSameTo f g (p + suc n)
+      AreSameTo f g q
   unfolding made_by
-  number n p within e same =
+  number n p end within e same =
       let xs = bytes_at f p (suc n) in
       let ys = bytes_at g p (suc n) in
-      let long = length-bytes_at f p (suc n) (omega (arith, within, two.long_f)) in
-      let also = length-bytes_at g p (suc n) (omega (arith, within, two.long_g)) in
-      further f g p (suc n) same
+      let long = length-bytes_at f p (suc n) (omega (arith, end, within, two.long_f)) in
+      let also = length-bytes_at g p (suc n) (omega (arith, end, within, two.long_g)) in
+      subst (AreSameTo f g) end
+      (further f g p (suc n) same
       (ext_get_or 0 xs ys (long ∙ sym also)
       (λ i lt.
       same_digits (λ k. get_or xs k 0) (λ k. get_or ys k 0)
       (small_bytes f p (suc n) two.small_f) (small_bytes g p (suc n) two.small_g) n e i
-      (omega (arith, lt, long))))
+      (omega (arith, lt, long)))))
 
   -- .. of two bytes, of eight, and of sixteen
-  short : (p : ℕ) → p + 2 ≤ size →
+  short : {q : ℕ} (p : ℕ) → p + 2 ≡ q → q ≤ size →
       from_be_bytes w16 (bytes_at f p 2) ≡ from_be_bytes w16 (bytes_at g p 2) →
-      AreSameTo f g p → AreSameTo f g (p + 2)
-  short p within e =
-      number 1 p within (sym (by_two (bytes_at f p 2)) ∙ e ∙ by_two (bytes_at g p 2))
+      AreSameTo f g p → AreSameTo f g q
+  short p end within e =
+      number 1 p end within (sym (by_two (bytes_at f p 2)) ∙ e ∙ by_two (bytes_at g p 2))
 
-  pub word : (p : ℕ) → p + 8 ≤ size →
+  pub word : {q : ℕ} (p : ℕ) → p + 8 ≡ q → q ≤ size →
       from_be_bytes w64 (bytes_at f p 8) ≡ from_be_bytes w64 (bytes_at g p 8) →
-      AreSameTo f g p → AreSameTo f g (p + 8)
-  word p within e =
-      number 7 p within (sym (by_eight (bytes_at f p 8)) ∙ e ∙ by_eight (bytes_at g p 8))
+      AreSameTo f g p → AreSameTo f g q
+  word p end within e =
+      number 7 p end within (sym (by_eight (bytes_at f p 8)) ∙ e ∙ by_eight (bytes_at g p 8))
 
-  pub wide : (p : ℕ) → p + 16 ≤ size →
+  pub wide : {q : ℕ} (p : ℕ) → p + 16 ≡ q → q ≤ size →
       from_be_bytes w128 (bytes_at f p 16) ≡ from_be_bytes w128 (bytes_at g p 16) →
-      AreSameTo f g p → AreSameTo f g (p + 16)
-  wide p within e =
-      number 15 p within (sym (by_sixteen (bytes_at f p 16)) ∙ e ∙ by_sixteen (bytes_at g p 16))
+      AreSameTo f g p → AreSameTo f g q
+  wide p end within e =
+      number 15 p end within
+      (sym (by_sixteen (bytes_at f p 16)) ∙ e ∙ by_sixteen (bytes_at g p 16))
 
   -- .. and of as many numbers of two bytes
-  pub shorts : (p n : ℕ) → p + 2 * n ≤ size →
+  pub shorts : (p n : ℕ) {q : ℕ} → p + 2 * n ≡ q → q ≤ size →
       ((i : ℕ) → i < n →
       from_be_bytes w16 (bytes_at f (p + 2 * i) 2) ≡ from_be_bytes w16 (bytes_at g (p + 2 * i) 2)) →
-      AreSameTo f g p → AreSameTo f g (p + 2 * n)
-  shorts p zero within each same = subst (AreSameTo f g) (none p) same
-    where
-      none : (p : ℕ) → p ≡ p + 2 * 0
-      none p = omega arith
-  shorts p (suc n) within each same =
-      subst (AreSameTo f g) (next p n)
-      (short (p + 2 * n) (omega (arith, within)) (each n (omega arith))
-      (shorts p n (omega (arith, within)) (λ i less. each i (omega (arith, less))) same))
-    where
-      next : (p n : ℕ) → p + 2 * n + 2 ≡ p + 2 * suc n
-      next p n = omega arith
+      AreSameTo f g p → AreSameTo f g q
+  shorts p zero {q} end within each same =
+      let start : p ≡ q = omega (arith, end) in subst (AreSameTo f g) start same
+  shorts p (suc n) end within each same =
+      short (p + 2 * n) (omega (arith, end)) within (each n (omega arith))
+      (shorts p n refl (omega (arith, end, within)) (λ i less. each i (omega (arith, less))) same)
 
--- two files with one header, whose records are the same, each of as many bytes as its pip count has
-pub same_records : (width : ℕ → ℕ) (f g : List ℕ) (total : ℕ) → length f ≡ place_by width total →
-    length g ≡ place_by width total → AreSameTo f g 32 →
-    ((r : ℕ) → r < total →
-    bytes_at f (place_by width r) (width (pips (at_rank r)))
-    ≡ bytes_at g (place_by width r) (width (pips (at_rank r)))) → f ≡ g
-same_records width f g total long_f long_g headed each =
-    same_whole f g (place_by width total) long_f long_g (to total (omega arith))
-  where
-    to : (n : ℕ) → n ≤ total → AreSameTo f g (place_by width n)
-    to zero le = subst (AreSameTo f g) (sym (place_by-first width)) headed
-    to (suc n) le =
-        subst (AreSameTo f g) (sym (place_by-next width n))
-        (further f g (place_by width n) (width (pips (at_rank n))) (to n (omega (arith, le)))
-        (each n (omega (arith, le))))
+-- two files of bytes of one layout and of one bound, whose records have as many bytes as their pip
+-- counts have
+module _ (layout : Layout) (width : ℕ → ℕ) (places : layout.place ≡ place_by width) (f g : List ℕ)
+    (small_f : IsBytes f) (small_g : IsBytes g) (file_f : IsFileBy layout f)
+    (file_g : IsFileBy layout g) (bounds : bound_of f ≡ bound_of g) where
+  abbrev count : ℕ
+  count = count_to (bound_of f)
+
+  abbrev record_of : List ℕ → ℕ → List ℕ
+  record_of h r = bytes_at h (place_by width r) (width (pips (at_rank r)))
+
+  -- are of one length
+  long : (h : List ℕ) → IsFileBy layout h → bound_of f ≡ bound_of h →
+      length h ≡ place_by width count
+  long h file bound =
+      file.whole ∙ ap₂ (λ (place : ℕ → ℕ) b. place (count_to b)) places (sym bound)
+
+  -- .. and so are their records
+  records_two : (r : ℕ) → r < count →
+      AreBytes (width (pips (at_rank r))) (record_of f r) (record_of g r)
+  records_two r under = record {
+    long_f = length-record_by width f count r (long f file_f refl) under;
+    long_g = length-record_by width g count r (long g file_g bounds) under;
+    small_f = small_bytes f (place_by width r) (width (pips (at_rank r))) small_f;
+    small_g = small_bytes g (place_by width r) (width (pips (at_rank r))) small_g;
+  }
+
+  -- they are one where the record of each position is the same
+  pub same_records : ((x : Board) → IsPosition x → pips x ≤ bound_of f →
+      AreBytes (width (pips (at_rank (rank x)))) (record_of f (rank x)) (record_of g (rank x)) →
+      AreSameTo (record_of f (rank x)) (record_of g (rank x)) (width (pips (at_rank (rank x))))) →
+      f ≡ g
+  same_records each =
+      same_whole (place_by width count) f g (long f file_f refl) (long g file_g bounds)
+      (to count (omega arith))
+    where
+      one : (r : ℕ) → r < count → record_of f r ≡ record_of g r
+      one r under =
+          let here = within_bound (bound_of f) r under in
+          let n = rank (at_rank r) in
+          let both = records_two n ((rank_bound (at_rank r) (bound_of f) here.0).1 here.1) in
+          subst (λ k. record_of f k ≡ record_of g k)
+          (rank-at_rank r (omega (arith, under, count_to-most (bound_of f))))
+          (same_whole (width (pips (at_rank n))) (record_of f n) (record_of g n) both.long_f
+          both.long_g (each (at_rank r) here.0 here.1 both))
+
+      to : (n : ℕ) → n ≤ count → AreSameTo f g (place_by width n)
+      to zero le =
+          subst (AreSameTo f g) (sym (place_by-first width))
+          (file_f.headed ∙ ap (header_by layout) bounds ∙ sym file_g.headed)
+      to (suc n) le =
+          subst (AreSameTo f g) (sym (place_by-next width n))
+          (further f g (place_by width n) (width (pips (at_rank n))) (to n (omega (arith, le)))
+          (one n (omega (arith, le))))

@@ -1,12 +1,12 @@
 -- Where the records of a file stand: each behind the one before it.
 use Rattle.std.proofs.Common.{◌≡◌, ℕ, zero, suc, ◌+◌, ◌-◌, ◌*◌, ◌<◌, ◌≤◌, List, length, drop}
-use Rattle.std.proofs.Common.{sum_by, refl, ap, sym, ◌∙◌, arith, le_trans, le_of_eq, length-take}
+use Rattle.std.proofs.Common.{sum_by, refl, ap, ◌∙◌, arith, le_trans, length-take}
 use Rattle.std.proofs.Common.{length-drop}
 use Rattle.std.proofs.lemmas.List.Sums.{sum_by-cons}
 use Rattle.race_model.specs.Positions.{pips}
 use Rattle.race_model.specs.Ranks.{at_rank, count_to, numbers_from}
 use Rattle.race_model.specs.Versions.{Version, full, compact, record_length}
-use Rattle.race_model.specs.Files.{bytes_at, version_of, bound_of, place_by, record_place, IsFile, stored_at}
+use Rattle.race_model.specs.Files.{bytes_at, place_by, record_place}
 use Rattle.race_model.specs.BoardFiles.{board_place, board_length}
 use Rattle.race_model.proofs.Strategies.Horizons.{most_rolls-most}
 use Rattle.race_model.proofs.FirstFaults.Questions.{within_bound}
@@ -115,6 +115,16 @@ module _ (size : ℕ → ℕ) where
       later : (r n : ℕ) → suc r + suc n ≡ suc (suc r + n)
       later r n = omega arith
 
+  -- in a file of so many records each is as long as its pip count has it
+  pub length-record_by : (f : List ℕ) (count r : ℕ) → length f ≡ place_by size count → r < count →
+      length (bytes_at f (place_by size r) (size (pips (at_rank r)))) ≡ size (pips (at_rank r))
+  length-record_by f count r long under =
+      length-bytes_at f (place_by size r) (size (pips (at_rank r)))
+      (omega (arith, place_by-rises r (count - suc r), ap (place_by size) parts, long))
+    where
+      parts : suc r + (count - suc r) ≡ count
+      parts = omega (arith, under)
+
 -- the records of a version
 pub record_place-by : (version : Version) (r : ℕ) →
     record_place version r ≡ place_by (record_length version) r
@@ -179,15 +189,3 @@ record_place-most version r under =
           record_length-most version (pips (at_rank k))
           (within_bound 58 k (le_trans below under)).1),
     )
-
--- what a file stores for a rank is as long as the record of its pip count
-pub length-stored_at : (f : List ℕ) (r : ℕ) → IsFile f → r < count_to (bound_of f) →
-    length (stored_at f r) ≡ length_at (version_of f) r
-length-stored_at f r file under =
-    length-bytes_at f (record_place (version_of f) r) (length_at (version_of f) r)
-    (le_trans (record_place-rises (version_of f) r (count_to (bound_of f) - suc r))
-    (le_of_eq (ap (record_place (version_of f)) (parts (count_to (bound_of f)) under)
-    ∙ sym file.whole)))
-  where
-    parts : (c : ℕ) → r < c → suc r + (c - suc r) ≡ c
-    parts c h = omega (arith, h)

@@ -1,153 +1,216 @@
--- Two files that hold the same numbers, and whose bytes are under 256, are byte for byte one.
-use Rattle.std.proofs.Common.{◌≡◌, ℕ, zero, suc, ◌+◌, ◌*◌, ◌<◌, ◌≤◌, List, length, refl, ap, ap₂}
-use Rattle.std.proofs.Common.{sym, subst, ◌∙◌, arith, le_trans, le_of_eq}
-use Rattle.race_model.specs.Positions.{IsPosition, pips}
+-- Two files of one kind that hold the same numbers, and whose bytes are under 256, are byte for
+-- byte one: databases of one version, and board files whose numbers are written in the one way.
+use Rattle.std.proofs.Common.{◌≡◌, ℕ, zero, suc, ◌+◌, ◌-◌, ◌*◌, ◌^◌, ◌<◌, ◌≤◌, List, refl, ap}
+use Rattle.std.proofs.Common.{sym, subst, ◌∙◌, arith, add-one, le_trans}
+use Rattle.race_model.specs.Positions.{Board, IsPosition, pips}
 use Rattle.race_model.specs.Dice.{roll_at}
-use Rattle.race_model.specs.Ranks.{rank, at_rank, count_to}
+use Rattle.race_model.specs.Ranks.{rank, at_rank}
 use Rattle.race_model.specs.Horizon.{most_rolls}
+use Rattle.race_model.specs.Books.{Book}
 use Rattle.race_model.specs.Versions.{Version, full, compact, first_share, share_count, record_length}
-use Rattle.race_model.specs.Files.{IsBytes, bytes_at, version_of, bound_of, header, IsFile, record_place}
-use Rattle.race_model.specs.Files.{stored_at, record_at, mean_of, play_of, share_of, mean_at}
-use Rattle.race_model.specs.Files.{play_at, spread_at}
-use Rattle.race_model.specs.SameNumbers.{HasSameNumbers}
+use Rattle.race_model.specs.Files.{IsBytes, bytes_at, version_of, bound_of, IsFileBy, IsFile, layout_of, record_place}
+use Rattle.race_model.specs.Files.{told_record, record_at, mean_of, play_of, share_of, mean_at}
+use Rattle.race_model.specs.Files.{play_at, spread_at, book_of}
+use Rattle.race_model.specs.BoardFiles.{Parts, value_of_parts, count_place, board_layout, board_length}
+use Rattle.race_model.specs.BoardFiles.{board_place, board_record, mean_parts, board_play_of}
+use Rattle.race_model.specs.BoardFiles.{count_parts, count_at, board_book}
+use Rattle.race_model.specs.RightFiles.{IsRightBoard}
+use Rattle.race_model.specs.SameNumbers.{HasSameNumbersIn, HasSameNumbers}
 use Rattle.race_model.proofs.Dice.Throws.{roll_of_index}
-use Rattle.race_model.proofs.FirstFaults.Questions.{within_bound}
-use Rattle.race_model.proofs.FirstFaults.HeaderFacts.{small_bytes}
-use Rattle.race_model.proofs.Ranks.PositionTotals.{rank-at_rank, count_to-most}
-use Rattle.race_model.proofs.Strategies.Horizons.{most_rolls-most}
+use Rattle.race_model.proofs.Numbers.LowestTerms.{cancel}
+use Rattle.race_model.proofs.Ranks.RankOrder.{at_rank-rank, pips-range}
+use Rattle.race_model.proofs.Replies.OneReply.{power_positive}
+use Rattle.race_model.proofs.Strategies.Horizons.{most_rolls-most, most_rolls-board}
 use Rattle.race_model.proofs.RightFiles.Right.{bound_of-most}
-use Rattle.race_model.proofs.RightFiles.Fields.{AreBytes, AreSameTo, shorts, wide, same_whole, same_records}
-use Rattle.race_model.proofs.RightFiles.Places.{length-stored_at}
+use Rattle.race_model.proofs.RightFiles.CountParts.{same_parts, by_throws, told_some}
+use Rattle.race_model.proofs.RightFiles.CountParts.{count-short, count-middle, count-long}
+use Rattle.race_model.proofs.RightFiles.Fields.{AreBytes, AreSameTo, shorts, word, wide, same_records}
 use Rattle.race_model.proofs.RightFiles.ToldRecords.{told_mean, told_play, told_stored}
 
--- stored bytes whose numbers are the same
-module _ (size : ℕ) (a b : List ℕ) (two : AreBytes (58 + 16 * size) a b)
-    (means : mean_of a ≡ mean_of b)
-    (plays : (roll : ℕ) → roll < 21 → play_of a roll ≡ play_of b roll)
-    (shares : (j : ℕ) → j < size → share_of a j ≡ share_of b j) where
-  -- are the same with the mean
-  mean_to : AreSameTo a b 16
-  unfolding mean_of
-  mean_to = wide two 0 (omega arith) means refl
+-- the plays of a position are the same by their indices
+same_plays : (f g : Book) → HasSameNumbersIn f g → (x : Board) → IsPosition x →
+    pips x ≤ f.bound → (i : ℕ) → i < 21 → f.plays (rank x) i ≡ g.plays (rank x) i
+same_plays f g same x at low i inside =
+    subst (λ j. f.plays (rank x) j ≡ g.plays (rank x) j) (roll_of_index i inside).1
+    (same.plays x (roll_at i) at low)
 
-  -- .. the plays
-  plays_to : AreSameTo a b 58
-  unfolding play_of
-  plays_to = shorts two 16 21 (omega arith) plays mean_to
-
-  -- .. and the shares
-  shares_to : (j : ℕ) → j ≤ size → AreSameTo a b (58 + 16 * j)
-  unfolding share_of
-  shares_to zero le = plays_to
-  shares_to (suc j) le =
-      let next : 58 + 16 * j + 16 ≡ 58 + 16 * suc j = omega arith in
-      subst (AreSameTo a b) next
-      (wide two (58 + 16 * j) (omega (arith, le)) (shares j (omega (arith, le)))
-      (shares_to j (omega (arith, le))))
+-- the pip count of a position, by its rank
+abbrev ranked_pips : Board → ℕ
+ranked_pips x = pips (at_rank (rank x))
 
 -- files whose bytes are under 256, of one version, that hold the same numbers
 module _ (f g : List ℕ) (small_f : IsBytes f) (small_g : IsBytes g) (file_f : IsFile f)
     (file_g : IsFile g) (versions : version_of f ≡ version_of g) (same : HasSameNumbers f g) where
-  -- the bytes stored for a rank are as many as its record has, and have at most 22 rolls
-  module _ (r : ℕ) (under : r < count_to (bound_of f)) where
-    place : IsPosition (at_rank r) × (pips (at_rank r) ≤ bound_of f)
-    place = within_bound (bound_of f) r under
+  abbrev version : Version
+  version = version_of f
 
-    few : most_rolls (pips (at_rank r)) ≤ 22
-    few = most_rolls-most (pips (at_rank r)) (le_trans place.1 (bound_of-most f file_f))
+  -- what they store for a position
+  module _ (x : Board) (at : IsPosition x) (low : pips x ≤ bound_of f) where
+    abbrev stored : List ℕ → List ℕ
+    stored h = bytes_at h (record_place version (rank x)) (record_length version (ranked_pips x))
 
-    -- the length of what either stores
-    abbrev size : ℕ
-    size = record_length (version_of f) (pips (at_rank r))
+    module _ (two : AreBytes (record_length version (ranked_pips x)) (stored f) (stored g)) where
+      few : most_rolls (ranked_pips x) ≤ 22
+      few =
+          subst (λ y. most_rolls (pips y) ≤ 22) (sym (at_rank-rank x at))
+          (most_rolls-most (pips x) (le_trans low (bound_of-most f file_f)))
 
-    -- .. which is that of either
-    stored_f : length (stored_at f r) ≡ size
-    stored_f = length-stored_at f r file_f under
+      full_record : record_at g (rank x) ≡ told_record version (ranked_pips x) (stored g)
+      full_record =
+          ap (λ v. told_record v (ranked_pips x) (bytes_at g (record_place v (rank x))
+          (record_length v (ranked_pips x)))) (sym versions)
 
-    stored_g : length (stored_at g r) ≡ record_length (version_of g) (pips (at_rank r))
-    stored_g = length-stored_at g r file_g (subst (λ b. r < count_to b) same.bound under)
+      -- says the same mean
+      same_mean : mean_of (stored f) ≡ mean_of (stored g)
+      unfolding mean_at
+      same_mean =
+          sym (told_mean version (ranked_pips x) (stored f) few two.long_f)
+          ∙ same.means x at low
+          ∙ ap mean_of full_record
+          ∙ told_mean version (ranked_pips x) (stored g) few two.long_g
 
-    is_rank : rank (at_rank r) ≡ r
-    is_rank = rank-at_rank r (below (count_to (bound_of f)) under (count_to-most (bound_of f)))
-      where
-        below : (c : ℕ) → r < c → c ≤ 54264 → r < 54264
-        below c h le = omega arith
+      -- .. the same plays
+      same_play : (i : ℕ) → i < 21 → play_of (stored f) i ≡ play_of (stored g) i
+      unfolding play_at
+      same_play i inside =
+          sym (told_play version (ranked_pips x) (stored f) i few two.long_f inside)
+          ∙ same_plays (book_of f) (book_of g) same x at low i inside
+          ∙ ap (λ bs. play_of bs i) full_record
+          ∙ told_play version (ranked_pips x) (stored g) i few two.long_g inside
 
-    -- the full records hold the same numbers
-    full_means : mean_of (record_at f r) ≡ mean_of (record_at g r)
-    unfolding mean_at
-    full_means =
-        subst (λ n. mean_at f n ≡ mean_at g n) is_rank (same.means (at_rank r) place.0 place.1)
+      -- .. and the same shares
+      same_share : (j : ℕ) → j < share_count version (ranked_pips x) →
+          share_of (stored f) j ≡ share_of (stored g) j
+      unfolding spread_at
+      same_share j inside =
+          sym (told_stored version (ranked_pips x) (stored f) j few two.long_f inside)
+          ∙ same.shares x (first_share version + j) at low
+          (in_time version (ranked_pips x) few inside)
+          ∙ ap (λ bs. share_of bs (first_share version + j)) full_record
+          ∙ told_stored version (ranked_pips x) (stored g) j few two.long_g inside
+        where
+          in_time : (v : Version) (p : ℕ) → most_rolls p ≤ 22 → j < share_count v p →
+              first_share v + j ≤ 22
+          in_time full p h inside = omega (arith, inside)
+          in_time compact p h inside = omega (arith, h, inside)
 
-    full_plays : (roll : ℕ) → roll < 21 →
-        play_of (record_at f r) roll ≡ play_of (record_at g r) roll
-    unfolding play_at
-    full_plays roll inside =
-        subst (λ n. play_at f n roll ≡ play_at g n roll) is_rank
-        (subst (λ i. play_at f (rank (at_rank r)) i ≡ play_at g (rank (at_rank r)) i)
-        (roll_of_index roll inside).1
-        (same.plays (at_rank r) (roll_at roll) place.0 place.1))
-
-    full_shares : (k : ℕ) → k ≤ 22 → share_of (record_at f r) k ≡ share_of (record_at g r) k
-    unfolding spread_at
-    full_shares k le =
-        subst (λ n. spread_at f n k ≡ spread_at g n k) is_rank
-        (same.shares (at_rank r) k place.0 place.1 le)
-
-    -- .. so the stored bytes do
-    stored_means : mean_of (stored_at f r) ≡ mean_of (stored_at g r)
-    stored_means =
-        sym (told_mean (version_of f) (pips (at_rank r)) (stored_at f r) few stored_f)
-        ∙ full_means
-        ∙ told_mean (version_of g) (pips (at_rank r)) (stored_at g r) few stored_g
-
-    stored_plays : (roll : ℕ) → roll < 21 →
-        play_of (stored_at f r) roll ≡ play_of (stored_at g r) roll
-    stored_plays roll inside =
-        sym (told_play (version_of f) (pips (at_rank r)) (stored_at f r) roll few stored_f inside)
-        ∙ full_plays roll inside
-        ∙ told_play (version_of g) (pips (at_rank r)) (stored_at g r) roll few stored_g inside
-
-    stored_shares : (j : ℕ) → j < share_count (version_of f) (pips (at_rank r)) →
-        share_of (stored_at f r) j ≡ share_of (stored_at g r) j
-    stored_shares j inside =
-        sym (told_stored (version_of f) (pips (at_rank r)) (stored_at f r) j few stored_f inside)
-        ∙ full_shares (first_share (version_of f) + j)
-        (in_time (version_of f) (pips (at_rank r)) j few inside)
-        ∙ ap (λ v. share_of (record_at g r) (first_share v + j)) versions
-        ∙ told_stored (version_of g) (pips (at_rank r)) (stored_at g r) j few stored_g
-        (subst (λ v. j < share_count v (pips (at_rank r))) versions inside)
-      where
-        in_time : (version : Version) (p j : ℕ) → most_rolls p ≤ 22 →
-            j < share_count version p → first_share version + j ≤ 22
-        in_time full p j h inside = omega (arith, inside)
-        in_time compact p j h inside = omega (arith, h, inside)
-
-    -- so they are the same
-    same_stored : stored_at f r ≡ stored_at g r
-    same_stored =
-        let count = share_count (version_of f) (pips (at_rank r)) in
-        let also : length (stored_at g r) ≡ size =
-        stored_g ∙ ap (λ v. record_length v (pips (at_rank r))) (sym versions) in
-        let two : AreBytes size (stored_at f r) (stored_at g r) = record {
-          long_f = le_of_eq (sym stored_f);
-          long_g = le_of_eq (sym also);
-          small_f = small_bytes f (record_place (version_of f) r) size small_f;
-          small_g = small_bytes g (record_place (version_of g) r)
-              (record_length (version_of g) (pips (at_rank r))) small_g;
-        } in
-        same_whole (stored_at f r) (stored_at g r) size stored_f also
-        (shares_to count (stored_at f r) (stored_at g r) two stored_means stored_plays
-        stored_shares count (omega arith))
+      -- so it is the same
+      shares_to : (j : ℕ) → j ≤ share_count version (ranked_pips x) →
+          AreSameTo (stored f) (stored g) (58 + 16 * j)
+      unfolding mean_of play_of share_of
+      shares_to zero le =
+          shorts two 16 21 refl (omega arith) same_play
+          (wide two 0 refl (omega arith) same_mean refl)
+      shares_to (suc j) le =
+          wide two (58 + 16 * j) (omega arith) (omega (arith, le))
+          (same_share j (omega (arith, le))) (shares_to j (omega (arith, le)))
 
   -- so they are one
   pub one_file : f ≡ g
   unfolding record_place
   one_file =
-      same_records (record_length (version_of f)) f g (count_to (bound_of f)) file_f.whole
-      (file_g.whole ∙ sym (ap₂ (λ v b. record_place v (count_to b)) versions same.bound))
-      (file_f.headed ∙ ap₂ header versions same.bound ∙ sym file_g.headed)
-      (λ r under.
-      same_stored r under
-      ∙ ap (λ v. bytes_at g (record_place v r) (record_length v (pips (at_rank r))))
-      (sym versions))
+      same_records (layout_of version) (record_length version) refl f g small_f small_g file_f
+      (subst (λ v. IsFileBy (layout_of v) g) (sym versions) file_g) same.bound
+      (λ x at low two. shares_to x at low two (share_count version (ranked_pips x)) (omega arith))
+
+-- two parts of one number
+one_way : (a b : Parts) → a.lower < 36 ^ 11 → b.lower < 36 ^ 11 →
+    value_of_parts a ≡ value_of_parts b → a ≡ b
+one_way a b small_a small_b e =
+    let upper : a.upper ≡ b.upper = omega arith in
+    let lower : a.lower ≡ b.lower = omega arith in
+    same_parts upper lower
+
+-- the upper parts of two that are alike
+uppers : {a b : Parts} → a ≡ b → a.upper ≡ b.upper
+uppers = ap (λ (parts : Parts). parts.upper)
+
+-- .. and the lower ones
+lowers : {a b : Parts} → a ≡ b → a.lower ≡ b.lower
+lowers = ap (λ (parts : Parts). parts.lower)
+
+-- right board files whose bytes are under 256 that hold the same numbers
+module _ (f g : List ℕ) (small_f : IsBytes f) (small_g : IsBytes g) (right_f : IsRightBoard f)
+    (right_g : IsRightBoard g) (same : HasSameNumbersIn (board_book f) (board_book g)) where
+  -- the records of a position
+  module _ (x : Board) (at : IsPosition x) (low : pips x ≤ bound_of f)
+      (two : AreBytes (board_length (ranked_pips x)) (board_record f (rank x))
+      (board_record g (rank x))) where
+    abbrev ours : List ℕ
+    ours = board_record f (rank x)
+
+    abbrev theirs : List ℕ
+    theirs = board_record g (rank x)
+
+    low_g : pips x ≤ bound_of g
+    low_g = subst (λ b. pips x ≤ b) same.bound low
+
+    means : mean_parts ours ≡ mean_parts theirs
+    means =
+        one_way (mean_parts ours) (mean_parts theirs) (right_f.written x at low).mean
+        (right_g.written x at low_g).mean (same.means x at low)
+
+    -- of some throws, which are to the most rolls
+    module _ (k : ℕ) (some : 0 < k) (within : k ≤ most_rolls (ranked_pips x)) where
+      here : k ≤ most_rolls (pips x)
+      here = subst (λ y. k ≤ most_rolls (pips y)) (at_rank-rank x at) within
+
+      in_33 : k ≤ 33
+      in_33 = omega (arith, here, most_rolls-board (pips x) (pips-range x at))
+
+      -- they have the same count
+      values : value_of_parts (count_parts ours k) ≡ value_of_parts (count_parts theirs k)
+      unfolding count_at
+      values =
+          sym (told_some (ranked_pips x) k ours some within)
+          ∙ cancel (36 ^ (33 - k)) (count_at f (rank x) k) (count_at g (rank x) k)
+          (power_positive (33 - k)) (same.shares x k at low in_33)
+          ∙ told_some (ranked_pips x) k theirs some within
+
+      -- .. from 12 throws on in the same parts
+      counts : 11 < k → count_parts ours k ≡ count_parts theirs k
+      counts many =
+          one_way (count_parts ours k) (count_parts theirs k)
+          ((right_f.written x at low).counts k in_33 many here)
+          ((right_g.written x at low_g).counts k in_33 many here) values
+
+      -- so they are the same beyond it, where they are to it
+      next : AreSameTo ours theirs (count_place k) → AreSameTo ours theirs (count_place (k + 1))
+      next before = by_throws k
+          (λ few.
+          let one = ap value_of_parts (count-short ours k few) in
+          let other = ap value_of_parts (count-short theirs k few) in
+          word two (count_place k) (omega arith) (omega arith)
+          (omega (arith, sym one ∙ values ∙ other)) before)
+          (λ many few.
+          let parts =
+          sym (count-middle ours k many few) ∙ counts many ∙ count-middle theirs k many few in
+          word two (count_place k + 8) (omega arith) (omega arith) (lowers parts)
+          (word two (count_place k) refl (omega arith) (uppers parts) before))
+          (λ many.
+          let parts =
+          sym (count-long ours k many) ∙ counts (omega arith) ∙ count-long theirs k many in
+          word two (count_place k + 16) (omega arith) (omega arith) (lowers parts)
+          (wide two (count_place k) refl (omega arith) (uppers parts) before))
+
+    -- so they are the same
+    counts_to : (j : ℕ) → j ≤ most_rolls (ranked_pips x) →
+        AreSameTo ours theirs (count_place (j + 1))
+    unfolding mean_parts board_play_of
+    counts_to zero le =
+        shorts two 24 21 refl (omega arith)
+        (same_plays (board_book f) (board_book g) same x at low)
+        (word two 16 refl (omega arith) (lowers means)
+        (wide two 0 refl (omega arith) (uppers means) refl))
+    counts_to (suc j) le =
+        next (suc j) (omega arith) le
+        (subst (λ k. AreSameTo ours theirs (count_place k)) (add-one j)
+        (counts_to j (omega (arith, le))))
+
+  -- so they are one
+  pub one_board_file : f ≡ g
+  unfolding board_place
+  one_board_file =
+      same_records board_layout board_length refl f g small_f small_g right_f.file right_g.file
+      same.bound
+      (λ x at low two. counts_to x at low two (most_rolls (ranked_pips x)) (omega arith))

@@ -7,7 +7,7 @@ use Rattle.race_model.specs.Ranks.{at_rank}
 use Rattle.race_model.specs.Files.{bytes_at}
 use Rattle.race_model.specs.Horizon.{most_rolls}
 use Rattle.race_model.specs.BoardFiles.{Parts, board_record, count_at, count_parts, value_of_parts}
-use Rattle.db_layout.proofs.SameFronts.{count-long}
+use Rattle.race_model.proofs.RightFiles.CountParts.{count-long}
 use Rattle.db_layout.proofs.KnownRecords.{count-most, count-written, of_some, told-beyond, told-within}
 use Rattle.db_layout.proofs.board_numbers.long.Goals.{After-new}
 use Rattle.db_layout.proofs.board_numbers.long.Goals as goal

@@ -2,10 +2,10 @@ use Rattle.std.proofs.Common.{◌≡◌, ℕ, ◌+◌, drop, ap, sym, subst, ◌
 use Rattle.std.specs.Int.{w64, w128, from_be_bytes}
 use Rattle.race_model.specs.Files.{bytes_at}
 use Rattle.race_model.specs.BoardFiles.{count_place}
+use Rattle.race_model.proofs.RightFiles.CountParts.{same_parts, count-short, count-middle, count-long}
 use Rattle.db_layout.specs.BoardRecords.{KeepsBefore}
 use Rattle.db_layout.proofs.ByteParts.{bytes_at-agree}
-use Rattle.db_layout.proofs.SameFronts.{same_parts, keeps_twice, rest_stays}
-use Rattle.db_layout.proofs.SameFronts.{count-short, count-middle, count-long}
+use Rattle.db_layout.proofs.SameFronts.{keeps_twice, rest_stays}
 use Rattle.db_layout.proofs.board_writing.put_count.Goals as goal
 
 pub returns-then-k-le11-clause-count : goal.returns-then-k-le11-clause-count

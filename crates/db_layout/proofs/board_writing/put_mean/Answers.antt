@@ -1,8 +1,9 @@
 use Rattle.std.proofs.Common.{ap, ◌∙◌, arith}
 use Rattle.std.specs.Int.{w128, from_be_bytes}
 use Rattle.race_model.specs.BoardFiles.{mean_parts}
+use Rattle.race_model.proofs.RightFiles.CountParts.{same_parts}
 use Rattle.db_layout.proofs.ByteParts.{bytes_at-agree}
-use Rattle.db_layout.proofs.SameFronts.{same_parts, rest_stays}
+use Rattle.db_layout.proofs.SameFronts.{rest_stays}
 use Rattle.db_layout.proofs.board_writing.put_mean.Goals as goal
 
 pub returns-clause-mean : goal.returns-clause-mean

@@ -1,5 +1,5 @@
 -- There is one built file of a bound, and within the bounds of both it plays as a built database.
-use Rattle.std.proofs.Common.{ℕ, ◌≤◌, ◌^◌, List, refl, sym, subst, subst₂}
+use Rattle.std.proofs.Common.{ℕ, ◌≤◌, ◌^◌, List, refl, sym, ◌∙◌, subst, subst₂}
 use Rattle.race_model.specs.Positions.{pips}
 use Rattle.race_model.specs.Versions.{Version}
 use Rattle.race_model.specs.Files.{book_of}
@@ -7,13 +7,18 @@ use Rattle.race_model.specs.BoardFiles.{board_book}
 use Rattle.race_model.specs.BuiltFile.{IsBuilt}
 use Rattle.race_model.specs.Queries.{IsWithinAlike}
 use Rattle.race_model.specs.SameNumbers.{HasSamePlays}
-use Rattle.race_model.proofs.Books.Kinds.{further_mean, same_best}
+use Rattle.race_model.proofs.Books.Kinds.{HasBestPlays, further_mean, same_best}
+use Rattle.race_model.proofs.Books.OneBook.{one_book}
 use Rattle.race_model.proofs.Replies.OneReply.{power_positive}
 use Rattle.race_model.proofs.RightFiles.Built.{built_best}
 use Rattle.race_model.proofs.RightFiles.Right.{right_of_local, short}
+use Rattle.race_model.proofs.RightFiles.SameBytes.{one_board_file}
 use Rattle.retrograde.specs.BuiltBoards.{IsBuiltBoard}
-use Rattle.retrograde.proofs.UniqueBoards.{one_built}
 use Rattle.retrograde.proofs.laws.law_built_boards.Goals as goal
+
+-- a built board file says the best plays
+best : (b : ℕ) (f : List ℕ) → IsBuiltBoard b f → HasBestPlays (board_book f)
+best b f built x at low = built.plays x at (subst (λ n. pips x ≤ n) built.bound_is low)
 
 same_plays : (version : Version) (b c : ℕ) (f g : List ℕ) → IsBuilt version b f →
     IsBuiltBoard c g → HasSamePlays (book_of f) (board_book g)
@@ -23,11 +28,16 @@ same_plays version b c f g built_f built_g =
     (further_mean (book_of f) (board_book g) right.book built_g.right.book (short f right.file) 11
     refl)
     (built_best version b f built_f)
-    (λ x at low. built_g.plays x at (subst (λ n. pips x ≤ n) built_g.bound_is low))
+    (best c g built_g)
 
 pub returns : goal.returns
 returns c = record {
-  one = one_built;
+  one =
+      λ bound f g built_f built_g.
+      one_board_file f g built_f.bytes built_g.bytes built_f.right built_g.right
+      (one_book (board_book f) (board_book g) built_f.right.book built_g.right.book
+      (built_f.bound_is ∙ sym built_g.bound_is) refl (best bound f built_f)
+      (best bound g built_g));
   kinds =
       λ version b d f g built_f built_g line text alike.
       c.law_replies.ensures.kinds f g (right_of_local f built_f.local) built_g.right
