@@ -1,12 +1,13 @@
 use Rattle.std.proofs.Common.{arith}
 use Rattle.fixed_fraction.proofs.TwoParts.{power_within}
-use Rattle.epc_query.proofs.Counts.{told_some, no_upper}
+use Rattle.race_model.proofs.RightFiles.CountParts.{told_some}
+use Rattle.db_layout.proofs.KnownRecords.{count-one}
 use Rattle.epc_query.proofs.whole_board.count_in.Goals as goal
 
 pub returns-in_ok-new-2-clause-value : goal.returns-in_ok-new-2-clause-value
 returns-in_ok-new-2-clause-value c =
     let told = told_some c.args.pips c.args.k c.args.stored.now.bytes (omega arith) (omega arith) in
-    let none = no_upper c.args.k c.args.stored.now.bytes c.if-k-le11.true in
+    let none = count-one c.args.stored.now.bytes c.args.k c.if-k-le11.true in
     omega (arith, told, none, (c.in_ok-new-2.ensures {u = tt}).value)
 
 pub returns-else-k-le11-clause-some : goal.returns-else-k-le11-clause-some
