@@ -15,8 +15,8 @@ use least_plays::RankedMeans;
 use ranking::pips_of;
 use std::marker::Model;
 
-/// Where the records of the lowest ranks of a board file begin, with the leading bits of their
-/// means, for `COUNT` of them at most.
+/// How many bytes stand before each of the first `count` records of a board file, of `COUNT` at
+/// most, and the leading bits of its mean, both by rank. What stands beyond these says nothing.
 #[derive(Drop)]
 pub struct RecordStarts<const COUNT: usize> {
     pub offsets: [u32; COUNT],

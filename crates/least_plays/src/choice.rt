@@ -1,4 +1,4 @@
-//! The better of two ranks: the smaller mean and, of equal means, the lower rank.
+//! The better of each two of nine ranks: that of smaller mean and, of equal means, the lower one.
 ghost use Rattle.std.specs.Prelude.{◌≡◌, ℕ, ◌<◌, length, slice_index};
 ghost use Rattle.least_plays.specs.Firsts.{IsBetterOf};
 
