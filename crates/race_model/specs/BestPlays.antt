@@ -1,5 +1,5 @@
 -- The best of some positions: the least mean and, of equal means, the lowest rank. The builder
--- records the best result of each roll. Source: this project's profile.
+-- records the best result of each roll.
 use Rattle.std.specs.Prelude.{◌≡◌, ℕ, ◌≤◌}
 use Rattle.race_model.specs.Positions.{Board}
 use Rattle.race_model.specs.Dice.{Throw}

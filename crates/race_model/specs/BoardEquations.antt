@@ -1,5 +1,5 @@
 -- The checker's view of a board file: the equations are those of its book, and each number is
--- written in the one way that is allowed. Source: this project's profile.
+-- written in the one way that is allowed.
 use Rattle.std.specs.Prelude.{ℕ, List}
 use Rattle.race_model.specs.Positions.{Board}
 use Rattle.race_model.specs.Dice.{roll_at}
@@ -20,11 +20,11 @@ HoldsOnBoard f (mean_test rank) =
 HoldsOnBoard f (spread_test rank k) =
     IsCountWritten f (at_rank rank) k × HasShareIn (board_book f) (at_rank rank) k
 
--- all questions about a board file ..
+-- all questions about a board file
 abbrev pub AsksOnBoard : List ℕ → Test → Type 0
 AsksOnBoard f = AsksIn (board_book f)
 
--- .. and this is the first of them whose answer is no
+-- of all questions about a board file this is the first whose answer is no
 abbrev pub IsFirstBoardFault : List ℕ → Test → Type 0
 IsFirstBoardFault f = IsFirstFailing (AsksOnBoard f) (HoldsOnBoard f)
 

@@ -15,7 +15,7 @@ pub record Parts : Type 0 where
   pub upper : ℕ
   pub lower : ℕ
 
--- .. which make this number
+-- the number that two parts make
 abbrev pub value_of_parts : Parts → ℕ
 value_of_parts parts = parts.upper * 36 ^ 11 + parts.lower
 
@@ -59,12 +59,12 @@ mean_parts record_bytes = record {
   lower = from_be_bytes w64 (bytes_at record_bytes 16 8);
 }
 
--- .. the rank of the position that a roll leads to
+-- in the bytes of a record: the rank of the position that a roll leads to
 unfoldable pub board_play_of : List ℕ → ℕ → ℕ
 board_play_of record_bytes roll = from_be_bytes w16 (bytes_at record_bytes (24 + 2 * roll) 2)
 
--- .. of the sequences of k throws, how many end the game with the last one. To 11 throws there is
--- one number, of at most 36 ^ 11
+-- in the bytes of a record: of the sequences of k throws, how many end the game with the last one.
+-- To 11 throws there is one number, of at most 36 ^ 11
 unfoldable pub count_parts : List ℕ → ℕ → Parts
 count_parts record_bytes k =
     if nat_le k 11 then record { upper = 0; lower = word (count_place k) }

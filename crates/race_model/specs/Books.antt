@@ -23,15 +23,15 @@ pub record Book : Type 0 where
 abbrev pub mean_in : Book → Board → ℕ
 mean_in f x = f.means (rank x)
 
--- .. the rank of what a throw leads to
+-- the rank of the position to which a book says that a throw leads
 abbrev pub play_in : Book → Board → Throw → ℕ
 play_in f x v = f.plays (rank x) (roll_index v)
 
--- .. the position of that rank
+-- the position to which a book says that a throw leads
 abbrev pub recorded_in : Book → Board → Throw → Board
 recorded_in f x v = at_rank (play_in f x v)
 
--- .. the share of exactly k rolls
+-- the share of exactly k rolls that a book says of a position
 abbrev pub share_in : Book → Board → ℕ → ℕ
 share_in f x k = f.shares (rank x) k
 

@@ -1,6 +1,5 @@
 -- The file that the builder writes: of the plays to a least
 -- mean it records the one to the lowest rank.
--- Source: this project's profile.
 use Rattle.std.specs.Prelude.{◌≡◌, ℕ, ◌≤◌, List}
 use Rattle.race_model.specs.Positions.{Board, IsPosition, pips}
 use Rattle.race_model.specs.Dice.{Throw, IsRoll}

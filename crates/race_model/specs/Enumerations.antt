@@ -15,7 +15,7 @@ step_from x d s =
     if s == d then fewer x s ∷ [] else
     if sum (drop s x) == 0 then fewer x s ∷ [] else []
 
--- .. from any point
+-- what a die that shows d makes of x by moving a checker from any point
 abbrev pub all_steps : Board → Die → List Board
 all_steps x d = flat_map (step_from x (number d)) (range_with_len 1 (length x))
 

@@ -1,4 +1,4 @@
--- The text of each fault. Source: this project's profile.
+-- The text of each fault.
 use Rattle.std.specs.Prelude.{ℕ, List, ◌++◌, codes, decimal}
 use Rattle.race_model.specs.Headers.{HeaderTest, long_enough, magic, version, bound, count}
 use Rattle.race_model.specs.Headers.{record_bytes, reserved, exact_length}

@@ -102,11 +102,11 @@ record_at f r = told_record (version_of f) (pips (at_rank r)) (stored_at f r)
 unfoldable pub mean_of : List ℕ → ℕ
 mean_of record_bytes = from_be_bytes w128 (bytes_at record_bytes 0 16)
 
--- .. the rank of the position that a roll leads to
+-- in the bytes of a full record: the rank of the position that a roll leads to
 unfoldable pub play_of : List ℕ → ℕ → ℕ
 play_of record_bytes roll = from_be_bytes w16 (bytes_at record_bytes (16 + 2 * roll) 2)
 
--- .. the numerator over 36 ^ 22 of the share of exactly k rolls
+-- in the bytes of a full record: the numerator over 36 ^ 22 of the share of exactly k rolls
 unfoldable pub share_of : List ℕ → ℕ → ℕ
 share_of record_bytes k = from_be_bytes w128 (bytes_at record_bytes (58 + 16 * k) 16)
 
@@ -114,11 +114,11 @@ share_of record_bytes k = from_be_bytes w128 (bytes_at record_bytes (58 + 16 * k
 unfoldable pub mean_at : List ℕ → ℕ → ℕ
 mean_at f r = mean_of (record_at f r)
 
--- .. the rank that a roll leads to
+-- the rank that the record of a rank says for a roll
 unfoldable pub play_at : List ℕ → ℕ → ℕ → ℕ
 play_at f r roll = play_of (record_at f r) roll
 
--- .. the share of exactly k rolls
+-- the share of exactly k rolls that the record of a rank says
 unfoldable pub spread_at : List ℕ → ℕ → ℕ → ℕ
 spread_at f r k = share_of (record_at f r) k
 

@@ -1,5 +1,5 @@
 -- What the checker asks of a file, in its order, and the first answer that is no: it asks of the
--- book of the file. Source: this project's profile.
+-- book of the file.
 use Rattle.std.specs.Prelude.{◌≡◌, ℕ, suc, ◌+◌, ◌*◌, ◌<◌, ◌≤◌, ◌⊎◌, List}
 use Rattle.race_model.specs.Dice.{roll_at}
 use Rattle.race_model.specs.Ranks.{at_rank, count_to}
@@ -53,7 +53,7 @@ pub record IsFirstFailing (asked holds : Test → Type 0) (t : Test) : Type 0 wh
   pub fails : ¬ holds t
   pub earlier : (u : Test) → asked u → IsEarlier u t → holds u
 
--- .. and of those about the record of a rank
+-- of the questions that are asked about the record of a rank, this is the first whose answer is no
 pub record IsFirstInRecord (asked holds : Test → Type 0) (rank : ℕ) (t : Test) : Type 0 where
   pub of_rank : rank_of t ≡ rank
   pub is_asked : asked t
@@ -64,10 +64,10 @@ pub record IsFirstInRecord (asked holds : Test → Type 0) (rank : ℕ) (t : Tes
 abbrev pub Holds : List ℕ → Test → Type 0
 Holds f = HoldsOver whole (book_of f)
 
--- the questions that are asked about a file ..
+-- the questions that are asked about a file
 abbrev pub Asks : List ℕ → Test → Type 0
 Asks f = AsksIn (book_of f)
 
--- .. and this is the first of them whose answer is no
+-- of the questions that are asked about a file, this is the first whose answer is no
 abbrev pub IsFirstFault : (Test → Type 0) → List ℕ → Test → Type 0
 IsFirstFault asked f = IsFirstFailing asked (Holds f)

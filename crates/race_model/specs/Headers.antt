@@ -1,4 +1,4 @@
--- What is asked of a header, in order. Source: this project's profile.
+-- What is asked of a header, in order.
 use Rattle.std.specs.Prelude.{◌≡◌, ℕ, ◌<◌, ◌≤◌, List, length, replicate, codes}
 use Rattle.std.specs.Int.{w16, w32, from_be_bytes}
 use Rattle.race_model.specs.Ranks.{count_to}
@@ -55,7 +55,7 @@ HeaderHolds front = HeaderHoldsBy (layout_of (version_of front)) front
 abbrev pub IsHeader : List ℕ → ℕ → Type 0
 IsHeader front size = (t : HeaderTest) → HeaderHolds front size t
 
--- .. and of a board file
+-- all answers about the header of a board file are yes
 abbrev pub IsBoardHeader : List ℕ → Type 0
 IsBoardHeader f = (t : HeaderTest) → HeaderHoldsBy board_layout f (length f) t
 
@@ -63,6 +63,6 @@ IsBoardHeader f = (t : HeaderTest) → HeaderHoldsBy board_layout f (length f) t
 abbrev pub IsFirstHeaderFault : List ℕ → ℕ → HeaderTest → Type 0
 IsFirstHeaderFault front = IsFirstHeaderFaultBy (layout_of (version_of front)) front
 
--- .. and of a board file
+-- of a board file this is the first question about its header whose answer is no
 abbrev pub IsFirstBoardHeaderFault : List ℕ → HeaderTest → Type 0
 IsFirstBoardHeaderFault f = IsFirstHeaderFaultBy board_layout f (length f)

@@ -1,4 +1,4 @@
--- How many rolls a game can take at most, however it is played. Source: this project's profile.
+-- How many rolls a game can take at most, however it is played.
 use Rattle.std.specs.Prelude.{ℕ, zero, suc, ◌+◌, ◌*◌, ◌/◌, min, ◌==◌, nat_le, if◌then◌else◌}
 
 -- the most rolls of a pip count. Each position has the weight 2 * pips + checkers, and 1 more

@@ -1,9 +1,8 @@
 -- The positions of one pip count by a book, and the line that an audit writes of them; those of a
--- file are its book's. Source: this project's profile.
+-- file are its book's.
 use Rattle.std.specs.Prelude.{◌≡◌, ℕ, ◌-◌, ◌≤◌, List, ◌++◌, codes, decimal}
 use Rattle.race_model.specs.Positions.{Board, IsPosition, pips}
 use Rattle.race_model.specs.Ranks.{count_to, first_of}
-use Rattle.race_model.specs.LocalEquations.{whole}
 use Rattle.race_model.specs.Books.{Book, mean_in, whole_in}
 use Rattle.race_model.specs.Files.{book_of}
 use Rattle.race_model.specs.Replies.{IsShareTextOver}
@@ -32,14 +31,10 @@ pub record IsLevelLineOver (whole : ℕ) (b : Book) (p : ℕ) (text : List ℕ) 
       ≡ codes "pips " ++ decimal p ++ codes " positions " ++ decimal (level_count p)
       ++ codes " least " ++ least_text ++ codes " greatest " ++ greatest_text
 
--- .. by a book
+-- the line of a level by a book, without its line feed
 abbrev pub IsLevelLineIn : Book → ℕ → List ℕ → Type 0
 IsLevelLineIn b = IsLevelLineOver (whole_in b) b
 
 -- the least and the greatest mean of a pip count, by a file
 abbrev pub IsLevel : List ℕ → ℕ → ℕ → ℕ → Type 0
 IsLevel f = IsLevelIn (book_of f)
-
--- .. and the line of it
-abbrev pub IsLevelLine : List ℕ → ℕ → List ℕ → Type 0
-IsLevelLine f = IsLevelLineOver whole (book_of f)

@@ -1,3 +1,4 @@
+pub mod Prelude
 pub mod Positions
 pub mod Dice
 pub mod Plays
@@ -12,6 +13,7 @@ pub mod FirstFault
 pub mod Strategies
 pub mod RightFiles
 pub mod Books
+pub mod FurtherBooks
 pub mod Endings
 pub mod BoardFiles
 pub mod WrittenNumbers

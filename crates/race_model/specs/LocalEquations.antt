@@ -1,6 +1,6 @@
 -- The checker's view: each record is tested against records of lower rank alone. The equations are
 -- those of a book, over so many sequences; those of a file are its book's, over all sequences of 22
--- throws. Source: this project's profile.
+-- throws.
 use Rattle.std.specs.Prelude.{◌≡◌, ℕ, zero, suc, ◌+◌, ◌*◌, ◌^◌, ◌≤◌, List}
 use Rattle.race_model.specs.Positions.{Board, IsPosition, IsFinished, pips}
 use Rattle.race_model.specs.Dice.{Throw, IsRoll, weighted}
@@ -48,15 +48,15 @@ pub record IsLocalOver (over : ℕ) (f : Book) (x : Board) : Type 0 where
 abbrev pub HasMeanIn : Book → Board → Type 0
 HasMeanIn f = HasMeanOver (whole_in f) f
 
--- .. the spread equation
+-- by a book, over its sequences: the spread equation
 abbrev pub HasShareIn : Book → Board → ℕ → Type 0
 HasShareIn f = HasShareOver (whole_in f) f
 
--- .. the play, least and mean equations
+-- by a book, over its sequences: the play, least and mean equations
 abbrev pub HasLeastMeanIn : Book → Board → Type 0
 HasLeastMeanIn f = HasLeastMeanOver (whole_in f) f
 
--- .. all four
+-- by a book, over its sequences: all four equations
 abbrev pub IsLocalIn : Book → Board → Type 0
 IsLocalIn f = IsLocalOver (whole_in f) f
 

@@ -1,5 +1,5 @@
 -- What a play costs against the best one, and the order in which plays are listed: by a book, and
--- by a file, which is its book's. Source: this project's profile.
+-- by a file, which is its book's.
 use Rattle.std.specs.Prelude.{◌≡◌, ℕ, ◌+◌, ◌-◌, ◌<◌, ◌≤◌, ◌⊎◌, ◌↔◌, List, length, slice_index_or, Contains}
 use Rattle.race_model.specs.Positions.{Board, finished}
 use Rattle.race_model.specs.Dice.{Throw}
@@ -19,7 +19,7 @@ pub record IsLossIn (m : ℕ) (x : Board) (v : Throw) (y : Board) (l : ℕ) : Ty
   pub best_least : (z : Board) (t : ℕ) → Legal x v z → IsLeastIn m z t → best ≤ t
   pub loss_is : best + l ≡ after
 
--- .. and over all sequences of 22 throws
+-- l is the loss of the result y, over all sequences of 22 throws
 abbrev pub IsLoss : Board → Throw → Board → ℕ → Type 0
 IsLoss = IsLossIn 22
 
@@ -28,7 +28,7 @@ IsLoss = IsLossIn 22
 abbrev pub loss_in : Book → Board → Throw → Board → ℕ
 loss_in b x v y = mean_in b y - b.means (play_in b x v)
 
--- .. and by a file
+-- the loss by a file, as a numerator over 36 ^ 22
 abbrev pub loss : List ℕ → Board → Throw → Board → ℕ
 loss f = loss_in (book_of f)
 
@@ -48,10 +48,6 @@ pub record IsMoveListIn (b : Book) (x : Board) (v : Throw) (ys : List Board) : T
   pub ordered : (i j : ℕ) → i < j → j < length ys →
       IsListedBeforeIn b x v (slice_index_or ys i finished) (slice_index_or ys j finished)
 
--- .. by a file
-abbrev pub IsListedBefore : List ℕ → Board → Throw → Board → Board → Type 0
-IsListedBefore f = IsListedBeforeIn (book_of f)
-
--- .. the list of moves by a file
+-- the list of moves of a throw by a file
 abbrev pub IsMoveList : List ℕ → Board → Throw → List Board → Type 0
 IsMoveList f = IsMoveListIn (book_of f)

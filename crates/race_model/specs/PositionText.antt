@@ -1,5 +1,4 @@
 -- The text of a position: six counts with commas between, that of point 1 first.
--- Source: this project's profile.
 use Rattle.std.specs.Prelude.{◌≡◌, ℕ, ◌+◌, ◌-◌, ◌*◌, Bool, ◌&&◌, ◌==◌, nat_le, if◌then◌else◌}
 use Rattle.std.specs.Prelude.{Option, Some, None, List, [], ◌∷◌, length, map}
 use Rattle.std.specs.List.{slice_split}

@@ -1,5 +1,5 @@
 -- Lines of input: the six kinds of query, and when each is
--- refused. Source: this project's profile.
+-- refused.
 use Rattle.std.specs.Prelude.{◌≡◌, ℕ, ◌+◌, ◌<◌, ◌≤◌, ◌⊎◌, ◌↔◌, ◌==◌, List, [], ◌∷◌, ◌++◌, codes}
 use Rattle.std.specs.List.{slice_split}
 use Rattle.race_model.specs.Positions.{Board, IsFinished, checkers, pips}

@@ -1,4 +1,4 @@
--- The order of positions, and the rank of a position. Source: this project's profile. `boards` is
+-- The order of positions, and the rank of a position. `boards` is
 -- a box of 16 ^ 6 lists, which no proof may ever compute: what is built on it is `unfoldable`, so
 -- that it is opened only where a proof asks for it. A plain program goes through them one after
 -- another.

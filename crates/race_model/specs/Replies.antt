@@ -1,5 +1,5 @@
 -- The reply to each line of input, by the numbers of a book, which are counted over so many
--- sequences; that of a file is its book's. Source: this project's profile.
+-- sequences; that of a file is its book's.
 use Rattle.std.specs.Prelude.{◌≡◌, ℕ, suc, ◌+◌, ◌*◌, ◌/◌, ◌%◌, ◌<◌, List, [], ◌∷◌, ◌++◌, length, flat_map}
 use Rattle.std.specs.Prelude.{slice_index_or, codes, decimal}
 use Rattle.std.specs.List.{concat}
@@ -120,46 +120,22 @@ pub data IsReplyOver (whole : ℕ) (b : Book) (line text : List ℕ) : Type 0 wh
   refused : (why : Refusal) → IsRefused b.bound line why →
       text ≡ refusal_text why ++ 10 ∷ [] → IsReplyOver whole b line text
 
--- by a book, over its sequences: the list of moves
-abbrev pub IsMovesReplyIn : Book → Board → Throw → List ℕ → Type 0
-IsMovesReplyIn b = IsMovesReplyOver (whole_in b) b
-
--- .. the answer
-abbrev pub IsAnswerIn : Book → Query → List ℕ → Type 0
-IsAnswerIn b = IsAnswerOver (whole_in b) b
-
--- .. the reply
+-- the reply to a line by a book, over its sequences
 abbrev pub IsReplyIn : Book → List ℕ → List ℕ → Type 0
 IsReplyIn b = IsReplyOver (whole_in b) b
 
--- the parts of a reply by a file, over the sequences of 22 throws: the text of a share
-abbrev pub IsShareText : ℕ → List ℕ → Type 0
-IsShareText = IsShareTextOver whole
-
--- .. of the answer to a mean
-abbrev pub IsMeanReply : ℕ → List ℕ → Type 0
-IsMeanReply = IsMeanReplyOver whole
-
--- .. of a share in a distribution
-abbrev pub IsSharePart : ℕ → ℕ → List ℕ → Type 0
-IsSharePart = IsSharePartOver whole
-
--- .. of a distribution
+-- a distribution by a file, over the sequences of 22 throws
 abbrev pub IsDistReply : (ℕ → ℕ) → List ℕ → Type 0
 IsDistReply = IsDistReplyOver whole 22
 
--- .. of a result in a list of moves
+-- the part of a result in a list of moves by a file, over the sequences of 22 throws
 abbrev pub IsChoicePart : Board → ℕ → List ℕ → Type 0
 IsChoicePart = IsChoicePartOver whole
 
--- .. of a list of moves
+-- a list of moves by a file, over the sequences of 22 throws
 abbrev pub IsMovesReply : List ℕ → Board → Throw → List ℕ → Type 0
 IsMovesReply f = IsMovesReplyOver whole (book_of f)
 
--- .. the answer by a file
-abbrev pub IsAnswer : List ℕ → Query → List ℕ → Type 0
-IsAnswer f = IsAnswerOver whole (book_of f)
-
--- .. the reply by a file
+-- the reply to a line by a file, over the sequences of 22 throws
 abbrev pub IsReply : List ℕ → List ℕ → List ℕ → Type 0
 IsReply f = IsReplyOver whole (book_of f)

@@ -1,4 +1,4 @@
--- Books, and files, that hold the same numbers, or the same plays. Source: this project's profile.
+-- Books, and files, that hold the same numbers, or the same plays.
 use Rattle.std.specs.Prelude.{◌≡◌, ℕ, suc, ◌≤◌, List}
 use Rattle.race_model.specs.Positions.{Board, IsPosition, pips}
 use Rattle.race_model.specs.Dice.{Throw}
@@ -19,6 +19,6 @@ pub record HasSameNumbersIn (f g : Book) : Type 0 where
   pub shares : (x : Board) (k : ℕ) → IsPosition x → pips x ≤ f.bound → k ≤ suc f.further →
       share_in f x k ≡ share_in g x k
 
--- .. by two files
+-- one bound, and the same mean, plays and shares for each position within it, by two files
 abbrev pub HasSameNumbers : List ℕ → List ℕ → Type 0
 HasSameNumbers f g = HasSameNumbersIn (book_of f) (book_of g)

@@ -1,5 +1,5 @@
 -- The two versions of a database file. Version 1 records each position in full; version 2 leaves
--- out the shares that are known without being stored. Source: this project's profile.
+-- out the shares that are known without being stored.
 use Rattle.std.specs.Prelude.{ℕ, ◌+◌, ◌*◌, ◌==◌, if◌then◌else◌}
 use Rattle.race_model.specs.Horizon.{most_rolls}
 

@@ -1,5 +1,5 @@
 -- In which way the numbers of a board file have to be written, of two parts each: there is one way
--- for each number. Source: this project's profile.
+-- for each number.
 use Rattle.std.specs.Prelude.{ℕ, ◌^◌, ◌<◌, ◌≤◌, List}
 use Rattle.race_model.specs.Positions.{Board, pips}
 use Rattle.race_model.specs.Ranks.{rank}
@@ -10,7 +10,7 @@ use Rattle.race_model.specs.BoardFiles.{board_record, mean_parts, count_parts}
 abbrev pub IsMeanWritten : List ℕ → Board → Type 0
 IsMeanWritten f x = (mean_parts (board_record f (rank x))).lower < 36 ^ 11
 
--- .. and so is that of a count of k throws, where it has two
+-- the lower part of a count of k throws, where it has two, is less than one of the upper part
 abbrev pub IsCountWritten : List ℕ → Board → ℕ → Type 0
 IsCountWritten f x k =
     11 < k → k ≤ most_rolls (pips x) →
