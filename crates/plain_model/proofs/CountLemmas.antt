@@ -1,13 +1,10 @@
 -- Positions before one, counted by their first counts.
-use Rattle.std.proofs.Common.{◌≡◌, ℕ, zero, suc, ◌+◌, ◌-◌, ◌*◌, ◌^◌, ◌<◌, ◌≤◌, cond, List, [], ◌∷◌}
-use Rattle.std.proofs.Common.{◌++◌, length, take, take_all, refl, ap, sym, ◌∙◌, append_assoc}
-use Rattle.std.proofs.Common.{add-one, lit≤, arith}
-use Rattle.std.specs.Prelude.{sum_by, slice_set}
+use Rattle.std.proofs.Common.{◌≡◌, ℕ, zero, suc, ◌+◌, ◌-◌, ◌*◌, ◌^◌, ◌<◌, ◌≤◌, cond, List, [], ◌∷◌, ◌++◌, length, take}
+use Rattle.std.proofs.Common.{take_all, refl, ap, sym, ◌∙◌, append_assoc, add-one, lit≤, arith, sum_by, slice_set}
 use Rattle.std.proofs.Math.Nat.{pow-suc, mul-le-mul_right}
 use Rattle.std.proofs.lemmas.List.{take_more_set, append-nil}
 use Rattle.std.proofs.lemmas.List.Sums.{sum_by-cons}
-use Rattle.race_model.specs.Positions.{Board}
-use Rattle.race_model.specs.Ranks.{boards, numbers_from, count_positions, rank}
+use Rattle.race_model.specs.Prelude.{Board, boards, numbers_from, count_positions, rank}
 use Rattle.race_model.proofs.Numbers.Sums.{sum_by-equal}
 use Rattle.race_model.proofs.Ranks.BoxCounts.{count_by-boards, sum_by-last}
 use Rattle.plain_model.specs.Counting.{is_position_before, positions_before}
@@ -92,7 +89,7 @@ pow-step (suc n) some = ap (λ k. 16 * 16 ^ k) (less n) ∙ omega (arith, pow-su
     less : (n : ℕ) → suc n - 1 ≡ n
     less n = omega arith
 
--- .. of which there are not too many to count
+-- there are not too many lists of counts to count
 pub pow-limit : (n : ℕ) → n ≤ 6 → 16 ^ n ≤ 16 ^ 6
 pow-limit zero few = lit≤ tt
 pow-limit (suc zero) few = lit≤ tt

@@ -1,15 +1,13 @@
 -- The list of all runs, point by point.
-use Rattle.std.proofs.Common.{◌≡◌, ℕ, zero, suc, ◌+◌, ◌-◌, ◌<◌, ◌≤◌, List, [], ◌∷◌, ◌++◌, length}
-use Rattle.std.proofs.Common.{take, take_all, drop, get_or, flat_map, cond, refl, ap, sym, ◌∙◌}
-use Rattle.std.proofs.Common.{append_assoc, add-one, eq-eqb, ne_eqb, arith}
+use Rattle.std.proofs.Common.{◌≡◌, ℕ, zero, suc, ◌+◌, ◌-◌, ◌<◌, ◌≤◌, List, [], ◌∷◌, ◌++◌, length, take, take_all, drop}
+use Rattle.std.proofs.Common.{get_or, flat_map, cond, refl, ap, sym, ◌∙◌, append_assoc, add-one, eq-eqb, ne_eqb, arith}
+use Rattle.std.proofs.Common.{sum}
 use Rattle.std.proofs.lemmas.Grind.{flat_map-append}
 use Rattle.std.proofs.lemmas.List.{append-nil}
-use Rattle.std.specs.Prelude.{sum}
 use Rattle.std.specs.List.{range_with_len}
 use Rattle.std.proofs.lemmas.List.Sums.{sum_by-cons}
-use Rattle.race_model.specs.Positions.{Board, checkers, count}
-use Rattle.race_model.specs.Dice.{Die, number}
-use Rattle.race_model.specs.Enumerations.{step_from, all_runs, all_steps}
+use Rattle.race_model.specs.Prelude.{Board, checkers, Die, number, step_from, all_runs, all_steps}
+use Rattle.race_model.specs.Positions.{count}
 
 -- no part of a list from a place on has a greater sum than the whole
 pub sum-drop : (n : ℕ) (x : List ℕ) → sum (drop n x) ≤ sum x

@@ -1,11 +1,9 @@
 -- The rolls over all sequences of two throws, by the places of the first throw.
-use Rattle.std.proofs.Common.{◌≡◌, ℕ, zero, suc, ◌+◌, ◌*◌, ◌<◌, ◌≤◌, Bool, true, false, cond, eqb}
-use Rattle.std.proofs.Common.{List, length, get_or, refl, ap, sym, ◌∙◌, add-one, lit≤, arith}
-use Rattle.std.specs.Prelude.{◌==◌, if◌then◌else◌, sum_by}
+use Rattle.std.proofs.Common.{◌≡◌, ℕ, zero, suc, ◌+◌, ◌*◌, ◌<◌, ◌≤◌, Bool, true, false, cond, eqb, List, length, get_or}
+use Rattle.std.proofs.Common.{refl, ap, sym, ◌∙◌, add-one, lit≤, arith, ◌==◌, if◌then◌else◌, sum_by}
 use Rattle.std.proofs.lemmas.List.{get_or_default}
-use Rattle.race_model.specs.Positions.{Board, checkers, finished}
-use Rattle.race_model.specs.Dice.{Throw, throws}
-use Rattle.race_model.specs.Strategies.{Strategy, stop, turn, total_over, count_over}
+use Rattle.race_model.specs.Prelude.{Board, checkers, finished, Throw, throws, Strategy, stop, turn, total_over}
+use Rattle.race_model.specs.Prelude.{count_over}
 use Rattle.race_model.proofs.Numbers.Sums.{sum_by-equal, sum_by-constant}
 use Rattle.race_model.proofs.Dice.RollSums.{length-throws}
 use Rattle.race_model.proofs.Strategies.Histories.{over, over-none, over-stop, over-turn}

@@ -1,8 +1,7 @@
 -- Lists of counts, by their first counts. What is built on `boards` is
 -- `unfoldable`: nothing may compute the box of 16 ^ 6 lists in a proof.
 use Rattle.std.specs.Prelude.{ℕ, Bool, ◌&&◌, nat_le, List, ◌++◌, count_by}
-use Rattle.race_model.specs.Positions.{Board, checkers}
-use Rattle.race_model.specs.Ranks.{is_before, boards}
+use Rattle.race_model.specs.Prelude.{Board, checkers, is_before, boards}
 
 -- these counts are a position, and it is before x
 abbrev pub is_position_before : List ℕ → Board → Bool

@@ -1,8 +1,6 @@
 -- Strategies seen over two throws.
 use Rattle.std.specs.Prelude.{ℕ, ◌+◌, ◌-◌, ◌*◌, ◌==◌, if◌then◌else◌, List, slice_index_or}
-use Rattle.race_model.specs.Positions.{Board, checkers, finished}
-use Rattle.race_model.specs.Dice.{Throw, number}
-use Rattle.race_model.specs.Strategies.{Strategy, stop, turn}
+use Rattle.race_model.specs.Prelude.{Board, checkers, finished, Throw, number, Strategy, stop, turn}
 
 -- the place of a throw in a list of 36, from 0 on: by the first die, and then by the second
 abbrev pub place_of : Throw → ℕ

@@ -1,10 +1,9 @@
 //! The results of a throw, by trying each die at each point.
 ghost use Rattle.std.specs.Prelude.{◌≡◌, ◌<◌, ◌≤◌, ◌↔◌, List, [], ◌∷◌, ◌++◌, length, drop, sum};
 ghost use Rattle.std.specs.Prelude.{Contains, IfOk, OnOk, IfSome, IfNone};
-ghost use Rattle.race_model.specs.Positions.{Board, IsPosition, count, fewer, more};
-ghost use Rattle.race_model.specs.Dice.{number};
-ghost use Rattle.race_model.specs.Plays.{Legal};
-ghost use Rattle.race_model.specs.Enumerations.{step_from, all_runs, all_results};
+ghost use Rattle.race_model.specs.Prelude.{Board, IsPosition, fewer, more, number, Legal, step_from, all_runs};
+ghost use Rattle.race_model.specs.Prelude.{all_results};
+ghost use Rattle.race_model.specs.Positions.{count};
 
 use home_board::Position;
 use legal_plays::Die;

@@ -1,7 +1,6 @@
 //! The rank of a position, by counting.
 ghost use Rattle.std.specs.Prelude.{◌≡◌, ◌-◌, ◌^◌, ◌≤◌, take};
-ghost use Rattle.race_model.specs.Positions.{checkers, pips};
-ghost use Rattle.race_model.specs.Ranks.{comes_first, is_before, rank};
+ghost use Rattle.race_model.specs.Prelude.{checkers, pips, comes_first, is_before, rank};
 ghost use Rattle.plain_model.specs.Counting.{is_position_before, positions_before};
 
 use home_board::Position;

@@ -1,8 +1,6 @@
 //! The rolls of a strategy over all sequences of two throws.
 ghost use Rattle.std.specs.Prelude.{◌≡◌, ◌*◌, ◌==◌, if◌then◌else◌, length};
-ghost use Rattle.race_model.specs.Positions.{Board};
-ghost use Rattle.race_model.specs.Dice.{Throw};
-ghost use Rattle.race_model.specs.Strategies.{Strategy, total_over, count_over};
+ghost use Rattle.race_model.specs.Prelude.{Board, Throw, Strategy, total_over, count_over};
 ghost use Rattle.plain_model.specs.TwoTurns.{begins_with, rolls_of_two};
 
 use home_board::Position;

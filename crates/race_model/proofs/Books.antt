@@ -7,6 +7,7 @@ pub mod Endings
 pub mod Boards
 pub mod Bounded
 pub mod Kinds
+pub mod Further
 pub mod Widths
 pub mod OneBook
 pub mod SameRanks

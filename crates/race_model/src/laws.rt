@@ -1,7 +1,7 @@
 //! Facts about the definitions, each on a function with an empty body: a call
 //! brings the fact into the caller's proof, and costs nothing when it runs.
 
-pub use books::{law_boards, law_books, law_endings, law_loss, law_widths};
+pub use books::{law_boards, law_books, law_endings, law_further, law_loss, law_widths};
 pub use faults::{law_first_board_fault, law_first_fault, law_header};
 pub use numbers::{law_bounds, law_fractions};
 pub use plays::{

@@ -1,16 +1,9 @@
 -- A board file is locally right exactly where it is right, since its book is. Its shares are those
 -- that its counts tell, so the equation of shares says what that of counts says.
 use Rattle.std.proofs.Common.{◌≡◌, ℕ, ◌+◌, ◌*◌, ◌-◌, ◌^◌, ◌≤◌, ◌↔◌, List, refl, ap, arith}
-use Rattle.race_model.specs.Positions.{Board, IsPosition, pips}
-use Rattle.race_model.specs.Ranks.{rank}
-use Rattle.race_model.specs.Files.{bound_of}
-use Rattle.race_model.specs.Books.{follow_in}
-use Rattle.race_model.specs.LocalEquations.{HasShareIn, HasLeastMeanIn}
-use Rattle.race_model.specs.Endings.{endings, IsCounted, HasCountIn}
-use Rattle.race_model.specs.BoardFiles.{board_book, count_at}
-use Rattle.race_model.specs.WrittenNumbers.{IsWritten}
-use Rattle.race_model.specs.RightFiles.{IsRightBoard}
-use Rattle.race_model.specs.BoardEquations.{IsLocalOnBoard, IsLocalBoard}
+use Rattle.race_model.specs.Prelude.{Board, IsPosition, pips, rank, bound_of, follow_in, HasShareIn, HasLeastMeanIn}
+use Rattle.race_model.specs.Prelude.{endings, IsCounted, HasCountIn, board_book, count_at, IsWritten, IsRightBoard}
+use Rattle.race_model.specs.Prelude.{IsLocalOnBoard, IsLocalBoard}
 use Rattle.race_model.proofs.Books.FromLocal.{right_of_local, whole_board}
 use Rattle.race_model.proofs.Books.FromRight.{local_of_right}
 use Rattle.race_model.proofs.Books.Endings.{share_is_count, counts_are_endings}
@@ -33,7 +26,7 @@ pub counts_of_local : (f : List ℕ) (x : Board) → IsLocalOnBoard f x → (k :
     HasCountIn (board_book f) (count_at f) x k
 counts_of_local f x here k le = (board_share_is_count f x k le).0 (here.equations.shares k le)
 
--- .. and a position whose counts do meets its equations
+-- a position whose counts meet their equations meets its own
 pub local_of_counts : (f : List ℕ) (x : Board) → IsWritten f x → HasLeastMeanIn (board_book f) x →
     ((k : ℕ) → k ≤ 33 → HasCountIn (board_book f) (count_at f) x k) → IsLocalOnBoard f x
 local_of_counts f x written means counts = record {
@@ -52,7 +45,7 @@ right_board f local = record {
   book = right_of_local (board_book f) (whole_board (board_book f) refl) local.at_each;
 }
 
--- .. and one that is right meets them
+-- a right board file meets the equations
 pub local_board : (f : List ℕ) → IsRightBoard f → IsLocalBoard f
 local_board f right = record {
   file = right.file;

@@ -3,13 +3,9 @@
 use Rattle.std.proofs.Common.{◌≡◌, ⊎_elim, ℕ, zero, suc, ◌+◌, ◌*◌, ◌^◌, ◌<◌, ◌≤◌, sym, ap, ◌∙◌, arith}
 use Rattle.std.proofs.lemmas.Nat.{pow-add}
 use Rattle.std.proofs.Math.Nat.{mul-le-mul_left, pow-suc}
-use Rattle.race_model.specs.Positions.{Board, IsPosition, IsFinished}
-use Rattle.race_model.specs.Dice.{Throw, IsRoll, weight, all_rolls, weighted}
-use Rattle.race_model.specs.Ranks.{rank}
-use Rattle.race_model.specs.Strategies.{EndsIn}
-use Rattle.race_model.specs.Books.{Book, mean_in, play_in, recorded_in, share_in, IsPlayedIn}
-use Rattle.race_model.specs.LocalEquations.{HasMeanOver, HasMeanIn, IsLocalOver}
-use Rattle.race_model.specs.Endings.{HasCountIn}
+use Rattle.race_model.specs.Prelude.{Board, IsPosition, IsFinished, Throw, IsRoll, weight, all_rolls, weighted, rank}
+use Rattle.race_model.specs.Prelude.{EndsIn, Book, mean_in, play_in, recorded_in, share_in, IsPlayedIn, HasMeanOver}
+use Rattle.race_model.specs.Prelude.{HasMeanIn, IsLocalOver, HasCountIn}
 use Rattle.race_model.proofs.Numbers.Sums.{sum_by-equal, sum_by-at_most, sum_by-times, sum_by-zero}
 use Rattle.race_model.proofs.Dice.RollSums.{sum_by-weight}
 use Rattle.race_model.proofs.Dice.Throws.{played_by_rolls}
@@ -28,12 +24,12 @@ weighted-at_most g m small =
     at_most : (w n : ℕ) → n ≤ m → w * n ≤ m * w
     at_most w n le = omega (arith, mul-le-mul_left w le)
 
--- .. of numbers that are none
+-- a weighted sum of numbers that are none is none
 pub weighted-none : (g : Throw → ℕ) → ((v : Throw) → g v ≡ 0) → weighted g ≡ 0
 weighted-none g none =
     sum_by-zero (λ v. weight v * g v) all_rolls (λ v. ap (λ n. weight v * n) (none v) ∙ omega arith)
 
--- .. of multiples of one number
+-- a weighted sum of multiples of one number is a multiple of it
 pub weighted-multiples : (g h : Throw → ℕ) (m : ℕ) → ((v : Throw) → g v ≡ h v * m) →
     weighted g ≡ weighted h * m
 weighted-multiples g h m each =
@@ -114,7 +110,7 @@ pub record Meets (f : Book) (counts : ℕ → ℕ → ℕ) (x : Board) : Type 0 
 abbrev pub MeetsTo : Book → (ℕ → ℕ → ℕ) → Board → Type 0
 MeetsTo f counts x = (z : Board) → IsPosition z → rank z ≤ rank x → Meets f counts z
 
--- .. so what a position leads to meets them, too
+-- what a position leads to meets the equations, too
 module _ (f : Book) (counts : ℕ → ℕ → ℕ) (x : Board) (at : IsPosition x)
     (unfinished : ¬ IsFinished x) (meets : MeetsTo f counts x) where
   rolls : (v : Throw) → IsRoll v → IsPlayedIn f x v
@@ -143,7 +139,7 @@ module _ (f : Book) (counts : ℕ → ℕ → ℕ) where
       (λ z is le.
       record { played = (meets z is le).played; mean_is = (meets z is le).mean_is })
 
-  -- .. and a multiple of the sequences of all further throws
+  -- the mean is a multiple of the sequences of all further throws
   pub mean-multiple : (n d : ℕ) (x : Board) → n + d ≡ suc f.further → EndsIn n x → IsPosition x →
       MeetsTo f counts x → (q : ℕ) × (mean_in f x ≡ q * 36 ^ d)
   mean-multiple zero d x all ends at meets =
@@ -197,7 +193,7 @@ module _ (f : Book) (counts : ℕ → ℕ → ℕ) where
       ))
       (finished_or_not x)
 
-  -- .. and none beyond as many throws as the game can take
+  -- there is no count beyond as many throws as the game can take
   pub count-beyond : (n : ℕ) (x : Board) → EndsIn n x → IsPosition x → MeetsTo f counts x →
       (k : ℕ) → n < k → k ≤ suc f.further → counts (rank x) k ≡ 0
   count-beyond n x ends at meets zero beyond few = absurd (omega arith)

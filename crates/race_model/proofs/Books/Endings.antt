@@ -2,13 +2,9 @@
 use Rattle.std.proofs.Common.{◌≡◌, ℕ, zero, suc, ◌+◌, ◌*◌, ◌-◌, ◌^◌, ◌≤◌, ◌↔◌, cond, sum_by, refl, sym, ap}
 use Rattle.std.proofs.Common.{◌∙◌, subst, arith, ⊎_elim}
 use Rattle.std.proofs.Math.Nat.{pow-suc, one-le-pow, eq_of_mul-eq-mul_right}
-use Rattle.race_model.specs.Positions.{Board, IsPosition, pips}
-use Rattle.race_model.specs.Dice.{Throw, throws, weight, all_rolls, weighted}
-use Rattle.race_model.specs.Ranks.{rank}
-use Rattle.race_model.specs.Strategies.{Strategy, stop, turn, IsWithin, count_over, sequences}
-use Rattle.race_model.specs.Books.{Book, play_in, recorded_in, follow_in, IsRightBook}
-use Rattle.race_model.specs.LocalEquations.{HasShareIn}
-use Rattle.race_model.specs.Endings.{is_ended_by, endings, IsCounted, HasCountIn}
+use Rattle.race_model.specs.Prelude.{Board, IsPosition, pips, Throw, throws, weight, all_rolls, weighted, rank}
+use Rattle.race_model.specs.Prelude.{Strategy, stop, turn, IsWithin, count_over, sequences, Book, play_in, recorded_in}
+use Rattle.race_model.specs.Prelude.{follow_in, IsRightBook, HasShareIn, is_ended_by, endings, IsCounted, HasCountIn}
 use Rattle.race_model.proofs.Numbers.Sums.{sum_by-equal, sum_by-times, sum_by-zero}
 use Rattle.race_model.proofs.Strategies.Histories.{sum_by-sequences, count_over-turn, count_over-turn_none}
 use Rattle.race_model.proofs.Strategies.Totals.{count_over-stop, count_over-stop_more}
@@ -20,7 +16,7 @@ pub endings-stop : endings stop 0 ≡ 1
 unfolding endings sequences
 endings-stop = refl
 
--- .. and with none after that
+-- the game that is over ends with no later throw
 pub endings-stop_more : (k : ℕ) → endings stop (suc k) ≡ 0
 unfolding endings
 endings-stop_more k =
@@ -34,7 +30,7 @@ pub endings-turn_none : (to : Throw → Board) (next : Throw → Strategy) →
 unfolding endings sequences
 endings-turn_none to next = refl
 
--- .. and then what goes on ends with one throw fewer
+-- after a turn's throw what goes on ends with one throw fewer
 pub endings-turn : (to : Throw → Board) (next : Throw → Strategy) (k : ℕ) →
     endings (turn to next) (suc k) ≡ sum_by (λ v. endings (next v) k) throws
 unfolding endings
@@ -125,7 +121,7 @@ module _ (f : Book) (counts : ℕ → ℕ → ℕ) (counted : IsCounted f counts
         omega (arith, here.1 unfinished, said, added, ap (λ n. counts (rank x) (suc k) * n) power)),
   )
 
-  -- .. and back
+  -- from counts to shares, at k rolls and further ones
   shares_of_counts : (x : Board) (k further : ℕ) → k + further ≡ suc f.further →
       HasCountIn f counts x k → HasShareIn f x k
   shares_of_counts x zero further e here = (

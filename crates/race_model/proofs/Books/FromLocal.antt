@@ -2,14 +2,10 @@
 -- says, and the strategy that plays what it says has that total, and the shares.
 use Rattle.std.proofs.Common.{◌≡◌, ⊎_elim, ℕ, zero, suc, ◌+◌, ◌*◌, ◌^◌, ◌≤◌, sum_by, cond, eq-eqb}
 use Rattle.std.proofs.Common.{ne_eqb, refl, ap, sym, subst, ◌∙◌, arith, le_trans, le_of_lt}
-use Rattle.race_model.specs.Positions.{Board, IsPosition, IsFinished, checkers, pips}
-use Rattle.race_model.specs.Dice.{Throw, throws, weighted}
-use Rattle.race_model.specs.Plays.{Legal}
-use Rattle.race_model.specs.Ranks.{rank}
-use Rattle.race_model.specs.Strategies.{Strategy, stop, turn, Fits, IsWithin, EndsIn}
-use Rattle.race_model.specs.Strategies.{total_over, count_over}
-use Rattle.race_model.specs.Books.{Book, mean_in, play_in, recorded_in, share_in, IsPlayedIn, follow_in, IsRightBook}
-use Rattle.race_model.specs.LocalEquations.{IsBestIn, IsLocalIn, IsLocalBook, IsLong}
+use Rattle.race_model.specs.Prelude.{Board, IsPosition, IsFinished, checkers, pips, Throw, throws, weighted, Legal}
+use Rattle.race_model.specs.Prelude.{rank, Strategy, stop, turn, Fits, IsWithin, EndsIn, total_over, count_over, Book}
+use Rattle.race_model.specs.Prelude.{mean_in, play_in, recorded_in, share_in, IsPlayedIn, follow_in, IsRightBook}
+use Rattle.race_model.specs.Prelude.{IsBestIn, IsLocalIn, IsLocalBook, IsLong}
 use Rattle.race_model.proofs.Dice.Throws.{played_by_rolls, best_by_rolls}
 use Rattle.race_model.proofs.Numbers.Sums.{sum_by-equal, sum_by-at_most}
 use Rattle.race_model.proofs.Dice.RollSums.{sum_by-throws}
@@ -27,7 +23,7 @@ follow_in-finished f (suc n) x none =
     ap (λ b. cond b stop (turn (recorded_in f x) (λ v. follow_in f n (recorded_in f x v))))
     (eq-eqb (checkers x) 0 none)
 
--- .. and plays on where it is not
+-- the strategy that plays what a book says plays on where the board is not empty
 pub follow_in-unfinished : (f : Book) (n : ℕ) (x : Board) → ¬ IsFinished x →
     follow_in f (suc n) x ≡ turn (recorded_in f x) (λ v. follow_in f n (recorded_in f x v))
 unfolding follow_in
@@ -41,7 +37,7 @@ module _ (f : Book) (x : Board) (here : IsLocalIn f x) where
   pub played_in : (v : Throw) → IsPlayedIn f x v
   played_in = played_by_rolls f x here.means.played
 
-  -- .. and least
+  -- the plays that are said for the 21 rolls are least for the 36 throws
   best_in : (v : Throw) → IsBestIn f x v
   best_in = best_by_rolls f x here.means.best
 
@@ -83,7 +79,7 @@ module _ (f : Book) (x : Board) (played : (v : Throw) → IsPlayedIn f x v) wher
       (λ v. ap f.means (played v).ranked)
       ∙ sum_by-throws (λ i. f.means (f.plays (rank x) i))
 
-  -- .. and their shares
+  -- the shares of what is played, added up by the rolls
   pub share_sum : (k : ℕ) → sum_by (λ v. share_in f (recorded_in f x v) k) throws
       ≡ weighted (λ v. f.shares (play_in f x v) k)
   share_sum k =

@@ -4,12 +4,10 @@ use Rattle.std.proofs.Common.{◌≡◌, ⊎_elim, ℕ, zero, suc, ◌+◌, ◌*
 use Rattle.std.proofs.Common.{Bool, true, false, ◌&&◌, cond, refl, ap, sym, subst, ◌∙◌, arith}
 use Rattle.std.proofs.Common.{le_trans, le_of_lt, le_of_eq}
 use mathlib.Core.Path.{fun_ext}
-use Rattle.race_model.specs.Positions.{Board, IsPosition, IsFinished, pips}
-use Rattle.race_model.specs.Dice.{Die, one, two, three, four, five, six, number, Throw, throws}
-use Rattle.race_model.specs.Plays.{Legal}
-use Rattle.race_model.specs.Strategies.{Strategy, stop, turn, Fits, IsWithin, total_over, count_over}
-use Rattle.race_model.specs.Books.{Book, mean_in, recorded_in, share_in, follow_in, IsRightIn, IsRightBook}
-use Rattle.race_model.specs.LocalEquations.{IsBestIn, HasShareIn, IsLocalBook, IsLong}
+use Rattle.race_model.specs.Prelude.{Board, IsPosition, IsFinished, pips, Die, one, two, three, four, five, six, number}
+use Rattle.race_model.specs.Prelude.{Throw, throws, Legal, Strategy, stop, turn, Fits, IsWithin, total_over, count_over}
+use Rattle.race_model.specs.Prelude.{Book, mean_in, recorded_in, share_in, follow_in, IsRightIn, IsRightBook, IsBestIn}
+use Rattle.race_model.specs.Prelude.{HasShareIn, IsLocalBook, IsLong}
 use Rattle.race_model.proofs.Plays.Results.{legal_position, legal_pips, legal_finished, finished_or_not}
 use Rattle.race_model.proofs.Strategies.Histories.{fits_within, count_over-turn_none}
 use Rattle.race_model.proofs.Dice.Faces.{is_throw, same_throw}
@@ -21,7 +19,7 @@ use Rattle.race_model.proofs.Books.FromLocal.{turn_total, turn_count, mean_sum, 
 abbrev pub otherwise_at : Throw → Board → (Throw → Board) → Throw → Board
 otherwise_at v z to u = cond (is_throw v u) z (to u)
 
--- .. and at that throw the play is the other one
+-- at the one throw that was changed the play is the other one
 pub otherwise_at-here : (v : Throw) (z : Board) (to : Throw → Board) → otherwise_at v z to v ≡ z
 otherwise_at-here v z to =
     ap₂ (λ b c. cond (b && c) z (to v)) (eq-eqb (number v.first) (number v.first) refl)
@@ -69,7 +67,7 @@ one_changed_at six four g z to = omega arith
 one_changed_at six five g z to = omega arith
 one_changed_at six six g z to = omega arith
 
--- .. at any throw
+-- a sum over the throws in which the place of any one throw is another
 pub one_changed : (v : Throw) (g : Board → ℕ) (z : Board) (to : Throw → Board) →
     sum_by (λ u. g (otherwise_at v z to u)) throws + g (to v) ≡ sum_by (λ u. g (to u)) throws + g z
 one_changed v g z to = one_changed_at v.first v.second g z to
@@ -118,7 +116,7 @@ module _ (f : Book) (right : IsRightBook f) (long : IsLong f) (x : Board) (at : 
       there =
           right y (legal_position x v y at leads) (le_trans (legal_pips x v y leads) low)
 
-    -- .. and is over a roll sooner
+    -- what is played from where a throw leads is over a roll sooner
     within : (v : Throw) (y : Board) → Legal x v y →
         IsWithin f.further (follow_in f (suc f.further) y)
     within v y leads =

@@ -5,16 +5,10 @@ use Rattle.std.proofs.Common.{◌≡◌, ℕ, zero, suc, ◌+◌, ◌*◌, ◌^�
 use Rattle.std.proofs.Common.{ap, ap₂, sym, subst, ◌∙◌, arith, le_trans}
 use Rattle.std.proofs.Math.Nat.{pow-succ', mul-le-mul_left}
 use mathlib.Core.Path.{fun_ext}
-use Rattle.race_model.specs.Positions.{Board, IsPosition, checkers, pips}
-use Rattle.race_model.specs.BestPlays.{IsBestPlay}
-use Rattle.race_model.specs.Dice.{Throw, IsRoll}
-use Rattle.race_model.specs.Plays.{Legal}
-use Rattle.race_model.specs.Ranks.{rank, at_rank}
-use Rattle.race_model.specs.Strategies.{Strategy, stop, turn, Fits, IsWithin, total_over, count_over}
-use Rattle.race_model.specs.Books.{Book, mean_in, play_in, recorded_in, share_in, IsPlayedIn}
-use Rattle.race_model.specs.LocalEquations.{IsLong}
-use Rattle.race_model.specs.Books.{follow_in, IsRightIn, IsRightBook}
-use Rattle.race_model.specs.SameNumbers.{HasSamePlays}
+use Rattle.race_model.specs.Prelude.{Board, IsPosition, checkers, pips, IsBestPlay, Throw, IsRoll, Legal, rank, at_rank}
+use Rattle.race_model.specs.Prelude.{Strategy, stop, turn, Fits, IsWithin, total_over, count_over, Book, mean_in}
+use Rattle.race_model.specs.Prelude.{play_in, recorded_in, share_in, IsPlayedIn, IsLong, follow_in, IsRightIn}
+use Rattle.race_model.specs.Prelude.{IsRightBook, HasSamePlays}
 use Rattle.race_model.proofs.Dice.Throws.{by_rolls}
 use Rattle.race_model.proofs.Plays.Results.{legal_position, legal_pips}
 use Rattle.race_model.proofs.Ranks.BestPlays.{best-times, best-one}
@@ -23,7 +17,7 @@ use Rattle.race_model.proofs.Strategies.Histories.{total_over-more, count_over-m
 use Rattle.race_model.proofs.Books.FromRight.{follow_in-more}
 
 -- over d throws more a strategy of at most n turns has a multiple of its rolls
-total_over-further : (n m d p : ℕ) (s : Strategy) → d + m ≡ p → IsWithin n s → n ≤ m →
+pub total_over-further : (n m d p : ℕ) (s : Strategy) → d + m ≡ p → IsWithin n s → n ≤ m →
     total_over p s ≡ 36 ^ d * total_over m s
 total_over-further n m zero p s e within le =
     let same : p ≡ m = omega (arith, e) in
@@ -35,8 +29,8 @@ total_over-further n m (suc d) (suc p) s e within le =
     let power = pow-succ' 36 d in
     here ∙ ap (λ k. 36 * k) rest ∙ omega (arith, ap (λ k. k * total_over m s) power)
 
--- .. and of its sequences for each number of rolls
-count_over-further : (n m d p k : ℕ) (s : Strategy) → d + m ≡ p → IsWithin n s → n ≤ m →
+-- over d throws more its sequences for each number of rolls are a multiple
+pub count_over-further : (n m d p k : ℕ) (s : Strategy) → d + m ≡ p → IsWithin n s → n ≤ m →
     count_over p s k ≡ 36 ^ d * count_over m s k
 count_over-further n m zero p k s e within le =
     let same : p ≡ m = omega (arith, e) in
@@ -49,7 +43,7 @@ count_over-further n m (suc d) (suc p) k s e within le =
     here ∙ ap (λ c. 36 * c) rest ∙ omega (arith, ap (λ c. c * count_over m s k) power)
 
 -- a strategy that plays what a book says, and fits, is the same with d turns more
-follow_in-further : (f : Book) (n d p : ℕ) (x : Board) → d + n ≡ p → Fits (follow_in f n x) x →
+pub follow_in-further : (f : Book) (n d p : ℕ) (x : Board) → d + n ≡ p → Fits (follow_in f n x) x →
     follow_in f p x ≡ follow_in f n x
 follow_in-further f n zero p x e fits =
     let same : p ≡ n = omega (arith, e) in ap (λ k. follow_in f k x) same
@@ -115,7 +109,7 @@ module _ (f g : Book) (right_f : IsRightBook f) (right_g : IsRightBook g) (long 
       total_over-further (suc f.further) (suc f.further) d (suc g.further) s more (within s fits)
       (omega arith)
 
-  -- .. and the least of them, which is the mean
+  -- the least of the rolls, which is the mean, is a multiple
   pub further_mean : mean_in g x ≡ 36 ^ d * mean_in f x
   further_mean =
       let one = ours.least.reached in
@@ -154,7 +148,7 @@ module _ (f g : Book) (right_f : IsRightBook f) (right_g : IsRightBook g) (long 
         (within plan ours.fits) (omega arith)
         ∙ ap (λ t. 36 ^ d * t) (sym (ours.spread_is k le))
 
-    -- .. and there is no other
+    -- beyond the shares of the first book there is none
     pub no_further_share : (k : ℕ) → suc f.further < k → k ≤ suc g.further → share_in g x k ≡ 0
     unfolding plan
     no_further_share k beyond le =

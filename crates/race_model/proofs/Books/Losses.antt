@@ -4,15 +4,10 @@
 use Rattle.std.proofs.Common.{◌≡◌, ℕ, suc, ◌+◌, ◌-◌, ◌*◌, ◌^◌, ◌<◌, ◌≤◌, sum_by, Bool, true, false}
 use Rattle.std.proofs.Common.{cond, refl, ap, sym, subst, ◌∙◌, arith, le_trans, le_of_eq}
 use Rattle.std.specs.List.{range_with_len}
-use Rattle.race_model.specs.Positions.{Board, IsPosition, IsFinished, pips}
-use Rattle.race_model.specs.Dice.{Throw, throws}
-use Rattle.race_model.specs.Plays.{Legal}
-use Rattle.race_model.specs.Horizon.{most_rolls}
-use Rattle.race_model.specs.Strategies.{Strategy, stop, turn, Fits, IsLeastIn, IsWithin, EndsIn, total_over, count_over}
-use Rattle.race_model.specs.Books.{Book, mean_in, play_in, recorded_in, share_in, IsPlayedIn}
-use Rattle.race_model.specs.LocalEquations.{IsLong}
-use Rattle.race_model.specs.Books.{follow_in, IsRightIn, IsRightBook}
-use Rattle.race_model.specs.Losses.{loss_in, IsLossIn, BeginsWith}
+use Rattle.race_model.specs.Prelude.{Board, IsPosition, IsFinished, pips, Throw, throws, Legal, most_rolls, Strategy}
+use Rattle.race_model.specs.Prelude.{stop, turn, Fits, IsLeastIn, IsWithin, EndsIn, total_over, count_over, Book}
+use Rattle.race_model.specs.Prelude.{mean_in, play_in, recorded_in, share_in, IsPlayedIn, IsLong, follow_in, IsRightIn}
+use Rattle.race_model.specs.Prelude.{IsRightBook, loss_in, IsLossIn, BeginsWith}
 use Rattle.race_model.proofs.Numbers.Sums.{sum_by-at_most, sum_by-equal_within}
 use Rattle.race_model.proofs.Plays.Results.{legal_position, legal_pips}
 use Rattle.race_model.proofs.Strategies.Histories.{fits_within, count_over-beyond}
@@ -38,7 +33,7 @@ module _ (b : Book) (right : IsRightBook b) (long : IsLong b) (x : Board)
       (fits_within (suc b.further) x (follow_in b (suc b.further) x) (long x at low)
       (right x at low).fits)
 
-  -- .. and each times its number of rolls to the mean
+  -- the shares, each times its number of rolls, add up to the mean
   pub shares_weigh : sum_by (λ k. share_in b x k * k) (range_with_len 0 (suc (suc b.further)))
       ≡ mean_in b x
   shares_weigh =

@@ -2,11 +2,8 @@
 -- the least, of the plays to them that of lowest rank is said, and the shares are those of the
 -- plays.
 use Rattle.std.proofs.Common.{◌≡◌, ℕ, suc, ◌≤◌, ap, sym, subst, ◌∙◌, arith}
-use Rattle.race_model.specs.Positions.{Board, IsPosition, pips}
-use Rattle.race_model.specs.Dice.{Throw}
-use Rattle.race_model.specs.Strategies.{IsLeastIn, count_over}
-use Rattle.race_model.specs.Books.{Book, mean_in, play_in, share_in, follow_in, IsRightBook}
-use Rattle.race_model.specs.SameNumbers.{HasSameNumbersIn}
+use Rattle.race_model.specs.Prelude.{Board, IsPosition, pips, Throw, IsLeastIn, count_over, Book, mean_in, play_in}
+use Rattle.race_model.specs.Prelude.{share_in, follow_in, IsRightBook, HasSameNumbersIn}
 use Rattle.race_model.proofs.Strategies.LeastExists.{least_in_agree}
 use Rattle.race_model.proofs.Books.Kinds.{HasBestPlays, same_best, same_follow}
 

@@ -1,12 +1,9 @@
 -- The equations of a position are those of its rank and of lower ones: two books that say the same
 -- of these meet the same.
 use Rattle.std.proofs.Common.{◌≡◌, ⊎_elim, ℕ, zero, suc, ◌+◌, ◌*◌, ◌<◌, ◌≤◌, ap, sym, subst, ◌∙◌, arith}
-use Rattle.race_model.specs.Positions.{Board, IsPosition}
-use Rattle.race_model.specs.Dice.{Throw, IsRoll, all_rolls, weight, roll_index, weighted}
-use Rattle.race_model.specs.Plays.{Legal}
-use Rattle.race_model.specs.Ranks.{rank, at_rank}
-use Rattle.race_model.specs.Books.{Book, play_in, recorded_in, IsPlayedIn}
-use Rattle.race_model.specs.LocalEquations.{IsBestIn, HasMeanOver, HasShareOver, IsLocalOver}
+use Rattle.race_model.specs.Prelude.{Board, IsPosition, Throw, IsRoll, all_rolls, weight, roll_index, weighted, Legal}
+use Rattle.race_model.specs.Prelude.{rank, at_rank, Book, play_in, recorded_in, IsPlayedIn, IsBestIn, HasMeanOver}
+use Rattle.race_model.specs.Prelude.{HasShareOver, IsLocalOver}
 use Rattle.race_model.proofs.Numbers.Sums.{sum_by-equal}
 use Rattle.race_model.proofs.Dice.Throws.{by_rolls}
 use Rattle.race_model.proofs.Dice.RollSums.{roll_index-range}

@@ -1,8 +1,6 @@
 -- A count of a board file stands behind the counts of fewer throws.
 use Rattle.std.proofs.Common.{◌≡◌, ℕ, zero, suc, ◌+◌, ◌-◌, ◌*◌, ◌≤◌, sum_by, refl, arith}
-use Rattle.race_model.specs.Ranks.{numbers_from}
-use Rattle.race_model.specs.Horizon.{most_rolls}
-use Rattle.race_model.specs.BoardFiles.{count_width, count_place, board_length}
+use Rattle.race_model.specs.Prelude.{numbers_from, most_rolls, count_width, count_place, board_length}
 use Rattle.race_model.proofs.RightFiles.Places.{sum_by-numbers_next}
 
 -- the widths of the counts of 1 to j throws

@@ -2,7 +2,7 @@
 use Rattle.std.proofs.Common.{◌≡◌, ◌≢◌, ◌⊎◌, inl, inr, ⊎_elim, ℕ, zero, suc, ◌<◌, Bool, true, ◌&&◌}
 use Rattle.std.proofs.Common.{eqb, refl, sym, ap, ◌∙◌, arith, eqb-true}
 use Rattle.std.proofs.lemmas.Bool.Decides.{eqb_tells}
-use Rattle.race_model.specs.Dice.{Die, one, two, three, four, five, six, number, Throw}
+use Rattle.race_model.specs.Prelude.{Die, one, two, three, four, five, six, number, Throw}
 use Rattle.race_model.proofs.Numbers.Tests.{both_tests}
 
 -- a die shows at least 1
@@ -23,7 +23,7 @@ die_showing (suc (suc (suc (suc zero)))) = four
 die_showing (suc (suc (suc (suc (suc zero))))) = five
 die_showing n = six
 
--- .. is the die that shows it
+-- the die that shows the number of a die is that die
 die_showing-number : (d : Die) → die_showing (number d) ≡ d
 unfolding die_showing
 die_showing-number one = refl
@@ -51,7 +51,7 @@ same_die a b =
 abbrev pub is_throw : Throw → Throw → Bool
 is_throw v u = eqb (number v.first) (number u.first) && eqb (number v.second) (number u.second)
 
--- .. and then they are the same throw
+-- two throws with the same dice in the same order are the same throw
 pub same_throw : (v u : Throw) → is_throw v u ≡ true → v ≡ u
 same_throw v u e =
     let parts =

@@ -2,7 +2,7 @@
 use Rattle.std.proofs.Common.{◌≡◌, ⊎_elim, ℕ, ◌<◌, List, map, length, get_or, sum_by, refl, sym, ap, ◌∙◌, arith}
 use Rattle.std.proofs.lemmas.List.{ext_get_or, length-map}
 use Rattle.std.proofs.Math.ListN.{get_or-map}
-use Rattle.race_model.specs.Dice.{Throw, one, reversed, all_rolls, roll_at, roll_index, weight, throws, weighted}
+use Rattle.race_model.specs.Prelude.{Throw, one, reversed, all_rolls, roll_at, roll_index, weight, throws, weighted}
 use Rattle.race_model.proofs.Numbers.Sums.{sum_by-map}
 use Rattle.race_model.proofs.Dice.Throws.{roll_of_index, index_of_roll, roll_index-reversed, roll_or_reversed}
 
@@ -45,10 +45,6 @@ module _ {T : Type 0} (g : ℕ → T) (parts : List (ℕ × T)) (len : length pa
       sum_by u parts ≡ sum_by (λ v. u (weight v, g (roll_index v))) all_rolls
   unfolding of_roll
   parts_sum u = rw parts_are (sum_by-map u of_roll all_rolls)
-
-  -- and their weights add up to 36
-  pub parts_weights : sum_by (λ part. part.0) parts ≡ 36
-  parts_weights = parts_sum (λ part. part.0) ∙ sum_by-weight
 
 -- there are 36 throws
 pub length-throws : length throws ≡ 36

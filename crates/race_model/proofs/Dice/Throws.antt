@@ -1,14 +1,9 @@
 -- Throws and rolls: a throw and its reverse do the same, and each throw or its reverse is a roll.
 use Rattle.std.proofs.Common.{◌≡◌, ◌⊎◌, ⊎_elim, ℕ, ◌+◌, ◌-◌, ◌*◌, ◌/◌, min, max, ◌<◌, ◌≤◌, List, []}
 use Rattle.std.proofs.Common.{◌∷◌, refl, sym, subst, ap₂, below_more, below_none, arith, lit<, lit≤}
-use Rattle.race_model.specs.Positions.{Board}
-use Rattle.race_model.specs.Dice.{Die, one, two, three, four, five, six, number, Throw, reversed}
-use Rattle.race_model.specs.Dice.{IsRoll, all_rolls, roll_at, roll_index}
-use Rattle.race_model.specs.Plays.{Legal, in_order, in_reverse, double, Run}
-use Rattle.race_model.specs.Books.{Book, mean_in, IsPlayedIn}
-use Rattle.race_model.specs.Files.{book_of}
-use Rattle.race_model.specs.Ranks.{rank, at_rank}
-use Rattle.race_model.specs.LocalEquations.{IsBestIn, IsPlayed, IsBest}
+use Rattle.race_model.specs.Prelude.{Board, Die, one, two, three, four, five, six, number, Throw, reversed, IsRoll}
+use Rattle.race_model.specs.Prelude.{all_rolls, roll_at, roll_index, Legal, in_order, in_reverse, double, Run, Book}
+use Rattle.race_model.specs.Prelude.{mean_in, IsPlayedIn, book_of, rank, at_rank, IsBestIn, IsPlayed, IsBest}
 
 -- a throw leads where its reverse leads
 pub legal_reversed : (x : Board) (v : Throw) (y : Board) → Legal x v y → Legal x (reversed v) y
@@ -125,7 +120,7 @@ played_by_rolls b x h v = record {
       (λ u r. (h u r).legal) v;
 }
 
--- .. and plays that are least for the 21 rolls are least for the 36 throws
+-- plays that are least for the 21 rolls are least for the 36 throws
 pub best_by_rolls : (b : Book) (x : Board) → ((v : Throw) → IsRoll v → IsBestIn b x v) →
     (v : Throw) → IsBestIn b x v
 best_by_rolls b x =

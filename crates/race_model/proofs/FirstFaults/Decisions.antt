@@ -1,22 +1,13 @@
 -- Each question about a book has an answer, so a file is locally right or has a first fault.
 use Rattle.std.proofs.Common.{◌≡◌, ◌⊎◌, inl, inr, ⊎_elim, ℕ, zero, suc, ◌+◌, ◌-◌, ◌*◌, ◌/◌, ◌^◌}
 use Rattle.std.proofs.Common.{◌<◌, ◌≤◌, List, [], ◌∷◌, refl, sym, subst, ◌∙◌, arith}
-use Rattle.race_model.specs.Positions.{Board, IsFinished, pips}
-use Rattle.race_model.specs.Dice.{Throw, roll_at, weighted}
-use Rattle.race_model.specs.Plays.{Legal}
-use Rattle.race_model.specs.Ranks.{rank, at_rank, count_to}
-use Rattle.race_model.specs.Horizon.{most_rolls}
-use Rattle.race_model.specs.Books.{Book, mean_in, play_in, recorded_in, share_in, IsPlayedIn, whole_in}
-use Rattle.race_model.specs.LocalEquations.{IsBestIn, HasMeanOver, HasShareOver, whole, IsLocalDatabase}
-use Rattle.race_model.specs.Files.{IsFile, book_of}
-use Rattle.race_model.specs.BoardFiles.{board_book, board_record, mean_parts, count_parts}
-use Rattle.race_model.specs.BoardFiles.{IsBoardFile}
-use Rattle.race_model.specs.WrittenNumbers.{IsMeanWritten, IsCountWritten}
-use Rattle.race_model.specs.BoardEquations.{HoldsOnBoard, IsFirstBoardFault, IsLocalBoard}
-use Rattle.race_model.specs.FirstFault.{Test, play_test, least_test, mean_test, spread_test}
-use Rattle.race_model.specs.FirstFault.{rank_of, place_of, HoldsOver, AsksIn, IsFirstFailing}
-use Rattle.race_model.specs.FirstFault.{Asks, IsFirstFault}
-use Rattle.race_model.specs.Enumerations.{all_results}
+use Rattle.race_model.specs.Prelude.{Board, IsFinished, pips, Throw, roll_at, weighted, Legal, rank, at_rank, count_to}
+use Rattle.race_model.specs.Prelude.{most_rolls, Book, mean_in, play_in, recorded_in, share_in, IsPlayedIn, whole_in}
+use Rattle.race_model.specs.Prelude.{IsBestIn, HasMeanOver, HasShareOver, whole, IsLocalDatabase, IsFile, book_of}
+use Rattle.race_model.specs.Prelude.{board_book, board_record, mean_parts, count_parts, IsBoardFile, IsMeanWritten}
+use Rattle.race_model.specs.Prelude.{IsCountWritten, HoldsOnBoard, IsFirstBoardFault, IsLocalBoard, Test, play_test}
+use Rattle.race_model.specs.Prelude.{least_test, mean_test, spread_test, rank_of, place_of, HoldsOver, AsksIn}
+use Rattle.race_model.specs.Prelude.{IsFirstFailing, Asks, IsFirstFault, all_results}
 use Rattle.race_model.proofs.Plays.Results.{finished_or_not}
 use Rattle.race_model.proofs.Plays.Enumerated.{IsIn, results_listed, listed_results}
 use Rattle.race_model.proofs.FirstFaults.InRecord.{asked_rank}
@@ -305,7 +296,7 @@ pub local_or_fault : (f : List ℕ) → IsFile f →
 local_or_fault f file = ⊎_elim (λ all. inl (local_of_answers f file all)) (λ fault. inr fault)
     (all_or_fault (book_of f) (HoldsOver whole (book_of f)) (yes_or_no whole (book_of f)))
 
--- .. and so a board file
+-- a board file is locally right, or has a first fault
 pub board_or_fault : (f : List ℕ) → IsBoardFile f →
     IsLocalBoard f ⊎ ((t : Test) × IsFirstBoardFault f t)
 board_or_fault f file = ⊎_elim (λ all. inl (board_of_answers f file all)) (λ fault. inr fault)

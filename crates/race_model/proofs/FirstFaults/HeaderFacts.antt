@@ -6,14 +6,12 @@ use Rattle.std.specs.Int.{w16, w32, from_be_bytes, to_be_bytes}
 use Rattle.std.proofs.Math.Seq.{take-add}
 use Rattle.std.proofs.lemmas.List.{drop-take, get_or-take, get_or-drop, get_or_past}
 use Rattle.std.proofs.lemmas.Nat.{be_bytes_2, be_bytes_4, from_be_bytes-to_be_bytes_2, from_be_bytes-to_be_bytes_4}
-use Rattle.race_model.specs.Ranks.{count_to}
-use Rattle.race_model.specs.Versions.{Version, full, compact, version_number, version_by, stated_length}
-use Rattle.race_model.specs.Files.{Layout, IsFileBy, header_by, layout_of}
-use Rattle.race_model.specs.Files.{bytes_at, version_of, bound_of, IsFile}
-use Rattle.race_model.specs.BoardFiles.{board_place, board_length, board_layout, IsBoardFile}
-use Rattle.race_model.specs.Headers.{HeaderTest, long_enough, magic, version, bound, count}
-use Rattle.race_model.specs.Headers.{record_bytes, reserved, exact_length, HeaderHoldsBy}
-use Rattle.race_model.specs.Headers.{IsHeader, IsFirstHeaderFault, IsBoardHeader}
+use Rattle.race_model.specs.Prelude.{count_to, Version, full, compact, version_number, version_by, stated_length}
+use Rattle.race_model.specs.Prelude.{Layout, IsFileBy, header_by, layout_of, bytes_at, version_of, bound_of, IsFile}
+use Rattle.race_model.specs.Prelude.{board_place, board_length, board_layout, IsBoardFile, HeaderTest, long_enough}
+use Rattle.race_model.specs.Prelude.{magic, version, bound, record_bytes, reserved, exact_length, HeaderHoldsBy}
+use Rattle.race_model.specs.Prelude.{IsHeader, IsFirstHeaderFault, IsBoardHeader}
+use Rattle.race_model.specs.Headers.{count}
 use Rattle.race_model.proofs.Ranks.PositionTotals.{count_to-most}
 use Rattle.race_model.proofs.RightFiles.Places.{header_before, length-bytes_at}
 use Rattle.race_model.proofs.RightFiles.Places.{board_place-by, place_by-most}
@@ -31,7 +29,7 @@ pub bound_of-front : (f : List ℕ) → bound_of (take 32 f) ≡ bound_of f
 unfolding bound_of
 bound_of-front f = ap (from_be_bytes w16) (bytes_at-front f 10 2 20 refl)
 
--- .. and the version
+-- the version that the first 32 bytes state is that of the file
 pub version_of-front : (f : List ℕ) → version_of (take 32 f) ≡ version_of f
 unfolding version_of
 version_of-front f = ap (λ l. version_by (from_be_bytes w16 l)) (bytes_at-front f 8 2 22 refl)
@@ -82,7 +80,7 @@ module _ (layout : Layout) (number_fits : layout.number < 2 ^ 16)
   front_of_file exact_length =
       file.whole ∙ ap (λ b. layout.place (count_to b)) (sym (bound_of-front f))
 
--- .. of the file, whose first bytes are the same
+-- the questions about the file are those about its first bytes, which are the same
 of_front : (layout : Layout) (f : List ℕ) (t : HeaderTest) →
     HeaderHoldsBy layout (take 32 f) (length f) t → HeaderHoldsBy layout f (length f) t
 of_front layout f long_enough h = (h.1, h.1)
@@ -120,7 +118,7 @@ header_of_file f file t =
     stated full = omega arith
     stated compact = omega arith
 
--- .. and of a board file
+-- the questions about the header of a board file are answered yes
 pub header_of_board : (f : List ℕ) → IsBoardFile f → IsBoardHeader f
 header_of_board f file t =
     of_front board_layout f t
@@ -201,7 +199,7 @@ module _ (layout : Layout) (f : List ℕ) (small : (i : ℕ) → get_or (take 32
           fields f
           ∙ (λ i. (yes_all magic) i ++ v i ++ b i ++ n i ++ r i ++ (yes_all reserved) i)
 
--- .. is a database, by the questions about its first bytes
+-- a file with such a header is a database, by the questions about its first bytes
 pub file_of_header : (f : List ℕ) → ((i : ℕ) → get_or (take 32 f) i 0 < 256) →
     IsHeader (take 32 f) (length f) → IsFile f
 file_of_header f small yes_all =
@@ -211,7 +209,7 @@ file_of_header f small yes_all =
     (subst (λ v. HeaderHoldsBy (layout_of v) (take 32 f) (length f) t) (version_of-front f)
     (yes_all t)))
 
--- .. or a board file
+-- a file with such a header is a board file, by the questions about its first bytes
 pub board_of_header : (f : List ℕ) → ((i : ℕ) → get_or f i 0 < 256) → IsBoardHeader f →
     IsBoardFile f
 board_of_header f small = file_of_answers board_layout f (small_bytes f 0 32 small)

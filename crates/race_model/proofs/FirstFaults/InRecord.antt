@@ -1,10 +1,8 @@
 -- The first fault of a record, which is the file's where the records of lower rank have none.
 use Rattle.std.proofs.Common.{◌≡◌, ⊎_elim, ℕ, ◌+◌, ◌*◌, ◌<◌, ◌≤◌, sym, subst, ◌∙◌, arith}
 use Rattle.std.proofs.lemmas.Bool.{cases_lt}
-use Rattle.race_model.specs.Ranks.{count_to}
-use Rattle.race_model.specs.Books.{Book}
-use Rattle.race_model.specs.FirstFault.{Test, play_test, least_test, mean_test, spread_test}
-use Rattle.race_model.specs.FirstFault.{rank_of, place_of, AsksIn, IsFirstFailing, IsFirstInRecord}
+use Rattle.race_model.specs.Prelude.{count_to, Book, Test, play_test, least_test, mean_test, spread_test, rank_of}
+use Rattle.race_model.specs.Prelude.{place_of, AsksIn, IsFirstFailing, IsFirstInRecord}
 
 -- what is asked is asked of a rank that has a record
 pub asked_rank : (b : Book) (u : Test) → AsksIn b u → rank_of u < count_to b.bound
@@ -30,7 +28,7 @@ module _ (b : Book) (holds : Test → Type 0) (r : ℕ) where
   abbrev pub PlaysHold : ℕ → Type 0
   PlaysHold n = (i : ℕ) → i < n → holds (play_test r i) × holds (least_test r i)
 
-  -- .. so all does that is asked before the play of roll n
+  -- where the plays of n rolls hold, so does all that is asked before the play of roll n
   pub before_play : (n : ℕ) → n ≤ 21 → PlaysHold n → (u : Test) → rank_of u ≡ r →
       place_of u < 2 * n → AsksIn b u → holds u
   before_play n most held (play_test q i) same less asks =
@@ -40,7 +38,7 @@ module _ (b : Book) (holds : Test → Type 0) (r : ℕ) where
   before_play n most held (mean_test q) same less asks = absurd (omega arith)
   before_play n most held (spread_test q k) same less asks = absurd (omega arith)
 
-  -- .. or whether it is the least, where it is a result
+  -- and all that is asked before whether the play of roll n is the least, where it is a result
   pub before_least : (n : ℕ) → n < 21 → PlaysHold n → holds (play_test r n) → (u : Test) →
       rank_of u ≡ r → place_of u < 2 * n + 1 → AsksIn b u → holds u
   before_least n under held here (play_test q i) same less asks =

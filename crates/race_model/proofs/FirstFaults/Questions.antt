@@ -1,17 +1,10 @@
 -- What a first fault means: the questions about a book are its local equations, rank by rank.
 use Rattle.std.proofs.Common.{◌≡◌, ◌⊎◌, ⊎_elim, ℕ, ◌<◌, ◌≤◌, List, ap, ap₂, sym, subst, arith}
-use Rattle.race_model.specs.Positions.{Board, IsPosition, pips}
-use Rattle.race_model.specs.Dice.{roll_at}
-use Rattle.race_model.specs.Ranks.{rank, at_rank, count_to}
-use Rattle.race_model.specs.Books.{Book, IsPlayedIn, whole_in}
-use Rattle.race_model.specs.LocalEquations.{IsBestIn, IsLocalOver, whole, IsLocalDatabase}
-use Rattle.race_model.specs.Files.{IsFile, bound_of, book_of}
-use Rattle.race_model.specs.BoardFiles.{board_book}
-use Rattle.race_model.specs.BoardFiles.{IsBoardFile}
-use Rattle.race_model.specs.WrittenNumbers.{IsWritten}
-use Rattle.race_model.specs.BoardEquations.{HoldsOnBoard, AsksOnBoard, IsFirstBoardFault, IsLocalBoard}
-use Rattle.race_model.specs.FirstFault.{Test, play_test, least_test, mean_test, spread_test}
-use Rattle.race_model.specs.FirstFault.{rank_of, place_of, HoldsOver, AsksIn, IsFirstFailing, Holds, Asks, IsFirstFault}
+use Rattle.race_model.specs.Prelude.{Board, IsPosition, pips, roll_at, rank, at_rank, count_to, Book, IsPlayedIn}
+use Rattle.race_model.specs.Prelude.{whole_in, IsBestIn, IsLocalOver, whole, IsLocalDatabase, IsFile, bound_of, book_of}
+use Rattle.race_model.specs.Prelude.{board_book, IsBoardFile, IsWritten, HoldsOnBoard, AsksOnBoard, IsFirstBoardFault}
+use Rattle.race_model.specs.Prelude.{IsLocalBoard, Test, play_test, least_test, mean_test, spread_test, rank_of}
+use Rattle.race_model.specs.Prelude.{place_of, HoldsOver, AsksIn, IsFirstFailing, Holds, Asks, IsFirstFault}
 use Rattle.race_model.proofs.Dice.Throws.{roll_of_index, by_index}
 use Rattle.race_model.proofs.Ranks.RankOrder.{at_rank_position, rank_bound, at_rank-rank}
 use Rattle.race_model.proofs.Ranks.PositionTotals.{rank-at_rank, count_to-most}
@@ -45,7 +38,7 @@ module _ (whole : ℕ) (b : Book) where
       let place = within_bound b.bound r asked.0 in
       (local (at_rank r) place.0 place.1).shares k asked.1
 
-  -- .. and the other way round
+  -- where each question that is asked is answered yes, the equations of the book hold
   pub local_of_answers_in : ((t : Test) → AsksIn b t → HoldsOver whole b t) → (x : Board) →
       IsPosition x → pips x ≤ b.bound → IsLocalOver whole b x
   local_of_answers_in yes_all x at low =
@@ -134,7 +127,7 @@ board_answers f local t asked = by t asked
           holds (spread_test r k) asked,
         )
 
--- .. and a board file of which each is so is locally right
+-- a board file of which each question is answered yes is locally right
 pub board_of_answers : (f : List ℕ) → IsBoardFile f →
     ((t : Test) → AsksOnBoard f t → HoldsOnBoard f t) → IsLocalBoard f
 board_of_answers f file yes_all = record {

@@ -5,7 +5,7 @@ use Rattle.std.proofs.Common.{lt_of_mul-lt-mul_right}
 use Prim.Native.Nat.{◌∣◌}
 use Rattle.std.proofs.lemmas.Nat.Gcd.{dvd_refl, dvd-zero, dvd_antisymm}
 use Rattle.std.proofs.Math.Nat.{dvd-add, dvd-add_iff_right, dvd-mul_left, dvd-mul_left_of_dvd, dvd-one}
-use Rattle.race_model.specs.Fractions.{IsFraction, IsThousandths}
+use Rattle.race_model.specs.Prelude.{IsFraction, IsThousandths}
 
 -- only 1 divides both
 abbrev IsCoprime : ℕ → ℕ → Type 0
@@ -24,7 +24,7 @@ from_smaller : (a c : ℕ) → IsOneApart a c → IsOneApart a (a + c)
 from_smaller a c (u, v, inl e) = (u + v, v, inl (omega (arith, e)))
 from_smaller a c (u, v, inr e) = (u, u + v, inr (omega (arith, e)))
 
--- .. with the numbers the other way round
+-- two numbers that are apart are so the other way round
 swapped : (a b : ℕ) → IsOneApart a b → IsOneApart b a
 swapped a b (u, v, inl e) = (u, v, inr e)
 swapped a b (u, v, inr e) = (u, v, inl e)

@@ -40,7 +40,7 @@ module _ {X : Type 0} (R : X → X → Type 0) (one_way : (x y : X) → R x y �
       (head_or_after x xs y ox ((same y).1 (0, omega arith, refl))))
       (head_or_after y ys x oy ((same x).0 (0, omega arith, refl)))
 
-  -- .. and tails with the same members
+  -- ordered lists with the same members have tails with the same members
   tail_members : (x : X) (xs ys : List X) → IsOrdered (x ∷ xs) → IsOrdered (x ∷ ys) →
       ((z : X) → Contains (x ∷ xs) z → Contains (x ∷ ys) z) → (z : X) → Contains xs z →
       Contains ys z

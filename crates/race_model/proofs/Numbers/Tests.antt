@@ -1,8 +1,7 @@
 -- Tests: what one that is passed says, and how comparisons of sums are those of their parts.
-use Rattle.std.proofs.Common.{◌≡◌, ℕ, suc, ◌+◌, ◌-◌, ◌<◌, ◌≤◌, Bool, true, false, cond, ◌&&◌}
-use Rattle.std.proofs.Common.{Option, Some, None, refl, sym, ap, arith, le-leb, eq-eqb, lt-ltb, ◌∙◌}
-use Rattle.std.proofs.Common.{ne_eqb, leb-true, eqb-true, ltb-true}
-use Rattle.std.specs.Prelude.{nat_le, nat_lt, ◌==◌}
+use Rattle.std.proofs.Common.{◌≡◌, ℕ, suc, ◌+◌, ◌-◌, ◌<◌, ◌≤◌, Bool, true, false, cond, ◌&&◌, Option, Some, None, refl}
+use Rattle.std.proofs.Common.{sym, ap, arith, le-leb, eq-eqb, lt-ltb, ◌∙◌, ne_eqb, leb-true, eqb-true, ltb-true, nat_le}
+use Rattle.std.proofs.Common.{nat_lt, ◌==◌}
 
 -- both of two tests
 pub both_tests : (a b : Bool) → (a && b) ≡ true → (a ≡ true) × (b ≡ true)

@@ -6,11 +6,10 @@ use Rattle.std.proofs.Common.{arith, eq-eqb, ne_eqb, eqb-true, ltb-true, ltb-fal
 use Rattle.std.specs.List.{range_with_len}
 use Rattle.std.proofs.lemmas.Bool.{eqb-false}
 use Rattle.std.proofs.lemmas.List.{get_or-drop}
-use Rattle.race_model.specs.Positions.{Board, count, checkers, fewer, more}
-use Rattle.race_model.specs.Dice.{Die, number, Throw}
-use Rattle.race_model.specs.Plays.{StepFrom, bear_off, move_down, from_highest, Step, Run, Legal}
-use Rattle.race_model.specs.Plays.{in_order, in_reverse, double}
-use Rattle.race_model.specs.Enumerations.{step_from, all_steps, all_runs, all_results}
+use Rattle.race_model.specs.Prelude.{Board, checkers, fewer, more, Die, number, Throw, StepFrom, bear_off, move_down}
+use Rattle.race_model.specs.Prelude.{from_highest, Step, Run, Legal, in_order, in_reverse, double, step_from, all_steps}
+use Rattle.race_model.specs.Prelude.{all_runs, all_results}
+use Rattle.race_model.specs.Positions.{count}
 use Rattle.race_model.proofs.Numbers.Sums.{sum-zeros}
 use Rattle.race_model.proofs.Plays.Steps.{occupied_place}
 use Rattle.race_model.proofs.Dice.Faces.{number_positive, numbers_apart, same_number}
@@ -22,24 +21,24 @@ abbrev pub IsIn : {X : Type 0} → X → List X → Type 0
 IsIn y [] = ⊥
 IsIn y (x ∷ xs) = (y ≡ x) ⊎ IsIn y xs
 
--- .. of two lists joined
+-- what is in two lists joined is in one of them
 in_append : {X : Type 0} (y : X) (xs ys : List X) → IsIn y (xs ++ ys) → IsIn y xs ⊎ IsIn y ys
 in_append y [] ys h = inr h
 in_append y (x ∷ xs) ys (inl e) = inl (inl e)
 in_append y (x ∷ xs) ys (inr h) = ⊎_elim (λ l. inl (inr l)) (λ r. inr r) (in_append y xs ys h)
 
--- .. from the first list
+-- what is in the first list is in both joined
 in_left : {X : Type 0} (y : X) (xs ys : List X) → IsIn y xs → IsIn y (xs ++ ys)
 in_left y [] ys h = absurd h
 in_left y (x ∷ xs) ys (inl e) = inl e
 in_left y (x ∷ xs) ys (inr h) = inr (in_left y xs ys h)
 
--- .. from the second
+-- what is in the second list is in both joined
 in_right : {X : Type 0} (y : X) (xs ys : List X) → IsIn y ys → IsIn y (xs ++ ys)
 in_right y [] ys h = h
 in_right y (x ∷ xs) ys h = inr (in_right y xs ys h)
 
--- .. of lists joined
+-- what is in lists joined is in one of them
 in_flat_map : {A X : Type 0} (f : A → List X) (y : X) (xs : List A) → IsIn y (flat_map f xs) →
     (a : A) × (IsIn a xs × IsIn y (f a))
 in_flat_map f y [] h = absurd h
@@ -48,7 +47,7 @@ in_flat_map f y (x ∷ xs) h =
     (λ r. let rest = in_flat_map f y xs r in (rest.0, (inr rest.1.0, rest.1.1)))
     (in_append y (f x) (flat_map f xs) h)
 
--- .. from one of them
+-- what is in one list is in all of them joined
 from_flat_map : {A X : Type 0} (f : A → List X) (y : X) (xs : List A) (a : A) → IsIn a xs →
     IsIn y (f a) → IsIn y (flat_map f xs)
 from_flat_map f y [] a h k = absurd h
@@ -57,7 +56,7 @@ from_flat_map f y (x ∷ xs) a (inl e) k =
 from_flat_map f y (x ∷ xs) a (inr h) k =
     in_right y (f x) (flat_map f xs) (from_flat_map f y xs a h k)
 
--- .. of a range of numbers
+-- a number is in the range that reaches beyond it
 in_range : (a n k : ℕ) → a ≤ k → k < a + n → IsIn k (range_with_len a n)
 in_range a zero k low high = absurd (omega arith)
 in_range a (suc n) k low high =
@@ -82,7 +81,7 @@ above_empty x s none (suc j) over =
     there : (s j : ℕ) → s < suc j → s + (j - s) ≡ j
     there s j h = omega arith
 
--- .. and the other way round
+-- where nothing stands above point s, the sum of the counts there is 0
 empty_above : (x : Board) (s : ℕ) → ((q : ℕ) → s < q → count x q ≡ 0) → sum (drop s x) ≡ 0
 empty_above x s empty =
     sum-zeros (drop s x) (λ k. get_or-drop s x k 0 ∙ empty (suc (s + k)) (omega arith))
@@ -177,7 +176,7 @@ steps_listed x d y h =
     let found = in_flat_map (step_from x (number d)) y (range_with_len 1 (length x)) h in
     (found.0, step_of_listed x (number d) found.0 y (number_positive d) found.1.1)
 
--- .. and each step is in it
+-- each step of a die is in the list of them
 listed_steps : (x : Board) (d : Die) (y : Board) → Step x d y → IsIn y (all_steps x d)
 listed_steps x d y (s, goes) =
     let place = occupied_place x s (from_occupied x (number d) s y goes) in
@@ -201,7 +200,7 @@ runs_listed (d ∷ dice) x y h = ⊎_elim
     further e (z, (step, rest)) run =
         inr (eqb-false (checkers x) 0 e, (z, (steps_listed x d z step, run z y rest)))
 
--- .. and each run is in it
+-- each run of some dice is in the list of them
 listed_runs : (dice : List Die) (x y : Board) → Run x dice y → IsIn y (all_runs dice x)
 listed_runs [] x y run = inl run
 listed_runs (d ∷ dice) x y run = ⊎_elim
@@ -240,7 +239,7 @@ listed_by x v b =
     cond b (all_runs (v.first ∷ v.first ∷ v.first ∷ v.first ∷ []) x)
     (all_runs (v.first ∷ v.second ∷ []) x ++ all_runs (v.second ∷ v.first ∷ []) x)
 
--- .. and each result is in it
+-- each result of a throw is in the list
 pub listed_results : (x : Board) (v : Throw) (y : Board) → Legal x v y → IsIn y (all_results x v)
 listed_results x v y (in_order apart run) =
     subst (λ b. IsIn y (listed_by x v b))
@@ -264,7 +263,7 @@ contains_of_in y (x ∷ xs) (inl e) = (0, omega arith, sym e)
 contains_of_in y (x ∷ xs) (inr h) =
     let rest = contains_of_in y xs h in (suc rest.0, omega (arith, rest.1), rest.2)
 
--- .. and the other way round
+-- what a list contains is in it
 pub in_of_contains : (y : Board) (xs : List Board) → Contains xs y → IsIn y xs
 in_of_contains y [] (k, h, e) = omega arith
 in_of_contains y (x ∷ xs) (zero, h, e) = inl (sym e)

@@ -5,11 +5,11 @@ use Rattle.std.proofs.Common.{◌≡◌, ◌≢◌, ◌⊎◌, inl, inr, ⊎_eli
 use Rattle.std.proofs.Common.{List, [], ◌∷◌, ◌++◌, length, get_or, replicate, refl, ap, sym, subst}
 use Rattle.std.proofs.Common.{◌∙◌, arith, le_of_eq}
 use Rattle.std.proofs.lemmas.List.{get_or-set_same, get_or-set_other, length-replicate}
-use Rattle.race_model.specs.Positions.{Board, IsFinished, IsHighest, count, fewer, more}
-use Rattle.race_model.specs.Dice.{Die, number, Throw}
-use Rattle.race_model.specs.Plays.{Step, bear_off, move_down, from_highest, Run, Legal, in_order, in_reverse, double}
-use Rattle.race_model.specs.MostDice.{Uses, IsOffered, no_die, first_alone, second_alone}
-use Rattle.race_model.specs.MostDice.{both_in_order, both_in_reverse, of_double, MostDice}
+use Rattle.race_model.specs.Prelude.{Board, IsFinished, IsHighest, fewer, more, Die, number, Throw, Step, bear_off}
+use Rattle.race_model.specs.Prelude.{move_down, from_highest, Run, Legal, in_order, in_reverse, double, Uses, IsOffered}
+use Rattle.race_model.specs.Prelude.{no_die, first_alone, second_alone, both_in_order, both_in_reverse, MostDice}
+use Rattle.race_model.specs.Positions.{count}
+use Rattle.race_model.specs.MostDice.{of_double}
 use Rattle.race_model.proofs.Numbers.Sums.{zeros_of_sum}
 use Rattle.race_model.proofs.Plays.Steps.{playable, occupied_place, one_fewer, one_more, one_moved}
 use Rattle.race_model.proofs.Dice.Faces.{number_positive, same_die}
@@ -31,7 +31,7 @@ uses_run [] x y same = same
 uses_run (d ∷ dice) x y (z, (goes, rest)) =
     inr (λ none. no_step x d z none goes, (z, (goes, uses_run dice z y rest)))
 
--- .. and where the board is empty after them, so are these and any others
+-- where the board is empty after some dice, any others can follow them
 uses_run_more : (dice others : List Die) (x y : Board) → Uses x dice y → IsFinished y →
     Run x (dice ++ others) y
 uses_run_more [] others x y same none =
@@ -39,7 +39,7 @@ uses_run_more [] others x y same none =
 uses_run_more (d ∷ dice) others x y (z, (goes, rest)) none =
     inr (λ stuck. no_step x d z stuck goes, (z, (goes, uses_run_more dice others z y rest none)))
 
--- .. or the same die again and again
+-- where the board is empty after n dice, the same die can be used again and again
 uses_run_times : (n m : ℕ) (d : Die) (x y : Board) → n ≤ m → Uses x (replicate n d) y →
     IsFinished y → Run x (replicate m d) y
 uses_run_times zero m d x y le same none =
@@ -207,7 +207,7 @@ last_off x s d last le = ⊎_elim
     apart : (q s n : ℕ) → s < n → n ≤ q → q ≢ s
     apart q s n below above e = omega arith
 
--- .. and whatever it does leaves the board empty
+-- whatever a die of at least its point does with the last checker leaves the board empty
 last_ends : (x : Board) (s : ℕ) (d : Die) (y : Board) → IsLast x s → s ≤ number d → Step x d y →
     IsFinished y
 last_ends x s d y last le goes =
@@ -227,7 +227,7 @@ record BearsLast (x : Board) (d : Die) (y : Board) : Type 0 where
   reach : point ≤ number d
   to : y ≡ fewer x point
 
--- .. and from where
+-- a step to the empty board bears off the last checker from where it stands
 bears_last : (x : Board) (d : Die) (y : Board) → IsFinished y → Step x d y → BearsLast x d y
 bears_last x d y none (s, bear_off at occupied to) = record {
   point = s;
@@ -334,7 +334,7 @@ shows_in_order v apart = record {
     only dice (both_in_reverse _ e) = inr (inr (inr (inr e)))
     only dice (of_double n le same e) = absurd (apart same)
 
--- .. and the other way round
+-- the second die and then the first are shown, where they differ
 shows_in_reverse : (v : Throw) → v.first ≢ v.second → Shows v v.second v.first
 shows_in_reverse v apart = record {
   apart = λ e. apart (sym e);
@@ -372,7 +372,7 @@ both_used v a b x y shows offered uses = record {
   greater = λ d e z one _ _. absurd (cc);
 }
 
--- .. in the reverse order
+-- both dice are used in the reverse order
 both_used_reversed : (v : Throw) (a b : Die) (x y : Board) → Shows v a b → Uses x (b ∷ a ∷ []) y →
     MostDice x v y
 both_used_reversed v a b x y shows uses = record {

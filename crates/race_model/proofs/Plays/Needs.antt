@@ -3,9 +3,9 @@
 -- longer than another.
 use Rattle.std.proofs.Common.{◌≡◌, ◌⊎◌, ⊎_elim, ℕ, zero, suc, ◌+◌, ◌-◌, ◌*◌, ◌/◌, ◌<◌, ◌≤◌, List}
 use Rattle.std.proofs.Common.{[], ◌∷◌, length, get_or, set, sum, replicate, refl, sym, subst, arith}
-use Rattle.race_model.specs.Positions.{Board, IsFinished, count, checkers, fewer, more}
-use Rattle.race_model.specs.Dice.{Die, one, two, three, four, five, six, number}
-use Rattle.race_model.specs.Plays.{Step, bear_off, move_down, from_highest}
+use Rattle.race_model.specs.Prelude.{Board, IsFinished, checkers, fewer, more, Die, one, two, three, four, five, six}
+use Rattle.race_model.specs.Prelude.{number, Step, bear_off, move_down, from_highest}
+use Rattle.race_model.specs.Positions.{count}
 use Rattle.race_model.proofs.Positions.Points.{on_board}
 use Rattle.race_model.proofs.Numbers.Sums.{sum-cons, zeros_of_sum}
 use Rattle.race_model.proofs.Plays.Steps.{occupied_place, one_fewer, less_one, one_more_of}
@@ -56,7 +56,7 @@ needs_from d p (c ∷ cs) = steps_from d p * c + needs_from d (suc p) cs
 abbrev pub needs : Die → Board → ℕ
 needs d x = needs_from d 1 x
 
--- .. after a write to the point q
+-- the steps that a position needs after a write to the point q
 needs_from-set : (d : Die) (p : ℕ) (x : List ℕ) (i q v : ℕ) → p + i ≡ q → i < length x →
     needs_from d p (set x i v) + steps_from d q * get_or x i 0
     ≡ needs_from d p x + steps_from d q * v
@@ -71,7 +71,7 @@ needs_from-set d p (c ∷ cs) zero q v e h =
 needs_from-set d p (c ∷ cs) (suc i) q v e h =
     let rest = needs_from-set d (suc p) cs i q v (omega arith) (omega arith) in omega (arith, rest)
 
--- .. after one checker is taken away
+-- the steps that a position needs after one checker is taken away
 pub needs-fewer : (d : Die) (x : Board) (s : ℕ) → 0 < count x s →
     needs d (fewer x s) + steps_from d s ≡ needs d x
 needs-fewer d x zero h = absurd (omega arith)
@@ -80,7 +80,7 @@ needs-fewer d x (suc i) h =
     (get_or x i 0) h
     (needs_from-set d 1 x i (suc i) (get_or x i 0 - 1) (omega arith) (on_board x i h))
 
--- .. and after one is put
+-- the steps that a position needs after one checker is put
 needs-more : (d : Die) (x : Board) (i : ℕ) → i < length x →
     needs d (more x (suc i)) ≡ needs d x + steps_from d (suc i)
 needs-more d x i place =

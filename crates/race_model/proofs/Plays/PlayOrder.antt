@@ -1,11 +1,10 @@
 -- There is one first play to a position.
 use Rattle.std.proofs.Common.{◌≡◌, ◌⊎◌, inl, inr, ⊎_elim, ℕ, ◌-◌, ◌<◌, ◌≤◌, List, [], ◌∷◌, refl, ap}
 use Rattle.std.proofs.Common.{ap₂, sym, subst, ◌∙◌, arith}
-use Rattle.race_model.specs.Positions.{Board, count}
-use Rattle.race_model.specs.Dice.{Die, number, Throw}
-use Rattle.race_model.specs.Plays.{StepFrom, bear_off, move_down, from_highest, Run}
-use Rattle.race_model.specs.FirstPlays.{Move, Moves, IsFoundBefore, IsFirstOf, IsFirstPlay}
-use Rattle.race_model.specs.FirstPlays.{greater_first, smaller_first, of_double}
+use Rattle.race_model.specs.Prelude.{Board, Die, number, Throw, StepFrom, bear_off, move_down, from_highest, Run, Move}
+use Rattle.race_model.specs.Prelude.{Moves, IsFoundBefore, IsFirstOf, IsFirstPlay, greater_first, smaller_first}
+use Rattle.race_model.specs.Positions.{count}
+use Rattle.race_model.specs.FirstPlays.{of_double}
 
 -- a checker that can't be there
 no_checker : (x : Board) (s d : ℕ) → ((p : ℕ) → d ≤ p → count x p ≡ 0) → d ≤ s → 0 < count x s → ⊥

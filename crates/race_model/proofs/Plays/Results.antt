@@ -3,9 +3,8 @@
 use Rattle.std.proofs.Common.{◌≡◌, ◌⊎◌, inl, inr, ⊎_elim, ℕ, ◌<◌, ◌≤◌, List, [], ◌∷◌, replicate}
 use Rattle.std.proofs.Common.{refl, ap, sym, subst, ◌∙◌, arith, le_refl, le_trans, le_of_lt}
 use Rattle.std.proofs.Common.{lt_of_le_of_lt}
-use Rattle.race_model.specs.Positions.{Board, IsPosition, IsFinished, checkers, pips, finished}
-use Rattle.race_model.specs.Dice.{Die, Throw}
-use Rattle.race_model.specs.Plays.{Step, Run, Legal, in_order, in_reverse, double}
+use Rattle.race_model.specs.Prelude.{Board, IsPosition, IsFinished, checkers, pips, finished, Die, Throw, Step, Run}
+use Rattle.race_model.specs.Prelude.{Legal, in_order, in_reverse, double}
 use Rattle.race_model.proofs.Numbers.Sums.{zeros_of_sum}
 use Rattle.race_model.proofs.Plays.Steps.{playable, fewer_pips, to_position}
 use Rattle.race_model.proofs.Dice.Faces.{same_die}
@@ -53,7 +52,7 @@ pub run_finished : (dice : List Die) (x y : Board) → IsFinished x → Run x di
 run_finished [] x y none run = run
 run_finished (d ∷ dice) x y none run = ⊎_elim (λ still. still.1) (λ goes. absurd (goes.0 none)) run
 
--- .. and there it leads
+-- from the finished position each run leads to itself
 pub run_stays : (dice : List Die) (x : Board) → IsFinished x → Run x dice x
 run_stays [] x none = refl
 run_stays (d ∷ dice) x none = inl (none, refl)
@@ -115,7 +114,7 @@ legal_run x v run = ⊎_elim
 pub legal_somewhere : (x : Board) (v : Throw) → (y : Board) × Legal x v y
 legal_somewhere x v = legal_run x v (λ dice. run_somewhere dice x)
 
--- .. from the finished position to itself
+-- from the finished position each throw leads to itself
 pub legal_stays : (x : Board) (v : Throw) → IsFinished x → Legal x v x
 legal_stays x v none = ⊎_elim
     (λ same. double same (run_stays (v.first ∷ v.first ∷ v.first ∷ v.first ∷ []) x none))

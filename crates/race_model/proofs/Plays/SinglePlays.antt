@@ -3,11 +3,10 @@ use Rattle.std.proofs.Common.{◌≡◌, ◌≢◌, ◌⊎◌, inl, inr, ⊎_eli
 use Rattle.std.proofs.Common.{◌≤◌, Bool, true, false, cond, leb, List, [], ◌∷◌, get_or, refl, ap}
 use Rattle.std.proofs.Common.{sym, subst, ◌∙◌, arith, eq-eqb, ne_eqb, leb-true, leb-false, lit≤}
 use Rattle.std.proofs.lemmas.List.{get_or-set_same, get_or-set_other}
-use Rattle.race_model.specs.Positions.{Board, IsFinished, IsHighest, count, fewer, more, finished}
-use Rattle.race_model.specs.Dice.{Die, one, two, three, four, five, six, number, Throw}
-use Rattle.race_model.specs.Plays.{Step, bear_off, move_down, from_highest, Run, Legal, in_order, double}
-use Rattle.race_model.specs.Strategies.{stop, turn, Fits}
-use Rattle.race_model.specs.Samples.{worth, from_six_point}
+use Rattle.race_model.specs.Prelude.{Board, IsFinished, IsHighest, fewer, more, finished, Die, one, two, three, four}
+use Rattle.race_model.specs.Prelude.{five, six, number, Throw, Step, bear_off, move_down, from_highest, Run, Legal}
+use Rattle.race_model.specs.Prelude.{in_order, double, stop, turn, Fits, worth, from_six_point}
+use Rattle.race_model.specs.Positions.{count}
 use Rattle.race_model.proofs.Dice.Faces.{same_die, numbers_apart}
 use Rattle.race_model.proofs.Plays.MostPlays.{get_or-zeros, empty_at}
 

@@ -1,9 +1,9 @@
 -- How many pips a throw takes at most: a die takes no more
 -- than it shows, so a double takes at most 24.
 use Rattle.std.proofs.Common.{◌≡◌, ◌⊎◌, ⊎_elim, ℕ, ◌+◌, ◌*◌, ◌<◌, ◌≤◌, List, [], ◌∷◌, length, arith, ap}
-use Rattle.race_model.specs.Positions.{Board, IsHighest, count, pips}
-use Rattle.race_model.specs.Dice.{Die, one, two, three, four, five, six, number, Throw}
-use Rattle.race_model.specs.Plays.{Step, Run, Legal, in_order, in_reverse, double}
+use Rattle.race_model.specs.Prelude.{Board, IsHighest, pips, Die, one, two, three, four, five, six, number, Throw, Step}
+use Rattle.race_model.specs.Prelude.{Run, Legal, in_order, in_reverse, double}
+use Rattle.race_model.specs.Positions.{count}
 use Rattle.race_model.proofs.Plays.Steps.{Change, moved, borne_off, changed}
 
 -- a die shows at most 6

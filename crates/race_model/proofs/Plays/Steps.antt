@@ -3,10 +3,9 @@
 use Rattle.std.proofs.Common.{◌≡◌, ◌⊎◌, inl, inr, ⊎_elim, ℕ, zero, suc, ◌+◌, ◌-◌, ◌*◌, ◌<◌, ◌≤◌}
 use Rattle.std.proofs.Common.{length, get_or, set, refl, sym, subst, subst₂, ◌∙◌, arith}
 use Rattle.std.proofs.lemmas.List.{length-set}
-use Rattle.race_model.specs.Positions.{Board, IsPosition, IsFinished, IsHighest, count, checkers}
-use Rattle.race_model.specs.Positions.{fewer, more, pips, pips_from}
-use Rattle.race_model.specs.Dice.{Die, number}
-use Rattle.race_model.specs.Plays.{Step, bear_off, move_down, from_highest}
+use Rattle.race_model.specs.Prelude.{Board, IsPosition, IsFinished, IsHighest, checkers, fewer, more, pips, pips_from}
+use Rattle.race_model.specs.Prelude.{Die, number, Step, bear_off, move_down, from_highest}
+use Rattle.race_model.specs.Positions.{count}
 use Rattle.race_model.proofs.Positions.Points.{highest, sum-set, pips_from-set, on_board}
 use Rattle.race_model.proofs.Dice.Faces.{number_positive}
 

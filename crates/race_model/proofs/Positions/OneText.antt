@@ -4,8 +4,7 @@ use Rattle.std.proofs.Common.{Some, None, List, [], ◌∷◌, map, refl, ap, ap
 use Rattle.std.proofs.Common.{leb-true}
 use Rattle.std.specs.List.{slice_split, join_with_byte}
 use Rattle.std.proofs.lemmas.List.Splits.{join_with_byte-slice_split}
-use Rattle.race_model.specs.Positions.{Board}
-use Rattle.race_model.specs.PositionText.{is_digit, is_leading_digit, count_value, IsPositionText}
+use Rattle.race_model.specs.Prelude.{Board, is_digit, is_leading_digit, count_value, IsPositionText}
 use Rattle.race_model.proofs.Numbers.Tests.{both_tests, tested}
 
 -- a value that is given under a test
@@ -17,7 +16,7 @@ given false a n e = absurd (cc)
 is_code : (c : ℕ) → is_digit c ≡ true → (48 ≤ c) × (c ≤ 57)
 is_code c e = let t = both_tests (leb 48 c) (leb c 57) e in (leb-true 48 c t.0, leb-true c 57 t.1)
 
--- .. and of digits from 1 on
+-- the codes of digits from 1 on
 is_leading_code : (c : ℕ) → is_leading_digit c ≡ true → (49 ≤ c) × (c ≤ 57)
 is_leading_code c e =
     let t = both_tests (leb 49 c) (leb c 57) e in (leb-true 49 c t.0, leb-true c 57 t.1)
@@ -81,7 +80,7 @@ one_count n w u (three_digits a b c l h m i o j e) (three_digits a₁ b₁ c₁ 
     let r : c ≡ c₁ = omega arith in
     λ x. p x ∷ q x ∷ r x ∷ []
 
--- .. and so are two lists of texts of the same counts
+-- two lists of texts of the same counts are one
 same_texts : (ws us : List (List ℕ)) (ns : List ℕ) → map count_value ws ≡ map (λ n. Some n) ns →
     map count_value us ≡ map (λ n. Some n) ns → ws ≡ us
 same_texts [] [] ns e f = refl

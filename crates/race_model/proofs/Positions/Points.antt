@@ -3,7 +3,8 @@ use Rattle.std.proofs.Common.{◌≡◌, ◌⊎◌, inl, inr, ⊎_elim, ℕ, zer
 use Rattle.std.proofs.Common.{◌∷◌, length, get_or, set, sum, replicate, refl, ap, ◌∙◌, arith}
 use Rattle.std.proofs.lemmas.List.{get_or_past}
 use Rattle.std.proofs.lemmas.List.Sums.{sum_by-set}
-use Rattle.race_model.specs.Positions.{Board, IsFinished, IsHighest, count, pips_from, pips}
+use Rattle.race_model.specs.Prelude.{Board, IsFinished, IsHighest, pips_from, pips}
+use Rattle.race_model.specs.Positions.{count}
 use Rattle.race_model.proofs.Numbers.Sums.{sum-zeros, zeros_of_sum}
 
 -- the sum after a write

@@ -2,11 +2,7 @@
 -- the means of lower ranks alone, and at the end it is rank 0.
 use Rattle.std.proofs.Common.{◌≡◌, ⊎_elim, ℕ, ◌*◌, ◌<◌, List, ◌∷◌, sym, ap, subst, ◌∙◌, arith}
 use Rattle.std.proofs.Math.Nat.{eq_of_mul-eq-mul_left, mul-le-mul_left}
-use Rattle.race_model.specs.Positions.{Board, IsPosition, IsFinished}
-use Rattle.race_model.specs.Dice.{Die, Throw}
-use Rattle.race_model.specs.Plays.{Run, Legal}
-use Rattle.race_model.specs.Ranks.{rank}
-use Rattle.race_model.specs.BestPlays.{IsBestOf, IsBestPlay}
+use Rattle.race_model.specs.Prelude.{Board, IsPosition, IsFinished, Die, Throw, Run, Legal, rank, IsBestOf, IsBestPlay}
 use Rattle.race_model.proofs.Plays.Results.{finished_or_not, only_finished, run_to_position}
 use Rattle.race_model.proofs.Plays.Results.{run_fewer_pips, run_finished, run_stays, legal_position}
 use Rattle.race_model.proofs.Plays.Results.{legal_fewer_pips, legal_finished, legal_stays}
@@ -20,7 +16,7 @@ run_lower d dice x z at unfinished run =
     rank-fewer z x (run_to_position (d ∷ dice) x z at run) at
     (run_fewer_pips d dice x z unfinished run)
 
--- .. and so has what a throw leads to
+-- what a throw leads to from an unfinished position has a lower rank
 pub legal_lower : (x : Board) (v : Throw) (z : Board) → IsPosition x → ¬ IsFinished x →
     Legal x v z → rank z < rank x
 legal_lower x v z at unfinished legal =
@@ -42,7 +38,7 @@ best-agree mean other Reached r agree best =
       lowest = λ z got same. best.lowest z got (agree z got ∙ (same ∙ sym here));
     }
 
--- .. and by means that are multiples of these by one number
+-- the best is the same by means that are multiples of others by one number
 pub best-times : (mean other : ℕ → ℕ) (c : ℕ) (Reached : Board → Type 0) (r : ℕ) → 0 < c →
     ((z : Board) → Reached z → other (rank z) ≡ c * mean (rank z)) → IsBestOf mean Reached r →
     IsBestOf other Reached r
@@ -98,7 +94,7 @@ run-agree_reached mean other d dice x r agree best = ⊎_elim
     (λ unfinished. best-agree mean other (Run x (d ∷ dice)) r (agree unfinished) best)
     (finished_or_not x)
 
--- .. and so does the best play
+-- the best play goes by the means of what an unfinished position leads to alone
 pub play-agree_reached : (mean other : ℕ → ℕ) (x : Board) (v : Throw) (r : ℕ) →
     (¬ IsFinished x → (z : Board) → Legal x v z → mean (rank z) ≡ other (rank z)) →
     IsBestPlay mean x v r → IsBestPlay other x v r
@@ -125,14 +121,14 @@ best-at_end mean Reached x at none stays alone =
     zero : (z : Board) → Reached z → rank z ≡ 0
     zero z got = ap rank (alone z got) ∙ rank-finished_position x at none
 
--- .. so it is after dice
+-- where the finished position alone is reached, the best after dice is rank 0
 pub run-at_end : (mean : ℕ → ℕ) (dice : List Die) (x : Board) → IsPosition x → IsFinished x →
     IsBestOf mean (Run x dice) 0
 run-at_end mean dice x at none =
     best-at_end mean (Run x dice) x at none (run_stays dice x none)
     (λ z run. run_finished dice x z none run)
 
--- .. and with a throw
+-- where the finished position alone is reached, the best with a throw is rank 0
 pub play-at_end : (mean : ℕ → ℕ) (x : Board) (v : Throw) → IsPosition x → IsFinished x →
     IsBestPlay mean x v 0
 play-at_end mean x v at none =

@@ -1,11 +1,10 @@
 -- Counts over the box of all boards, split by the first count: one recurrence for every test.
-use Rattle.std.proofs.Common.{◌≡◌, ℕ, zero, suc, ◌+◌, ◌<◌, ◌≤◌, Bool, true, false, cond, ◌&&◌, not}
-use Rattle.std.proofs.Common.{List, [], ◌∷◌, length, map, refl, sym, ◌∙◌, ap, zero-add, inl, inr}
-use Rattle.std.proofs.Common.{arith}
-use Rattle.std.specs.Prelude.{nat_le, ◌==◌, ◌⊎◌, sum, sum_by, count_by, find, Some, None}
+use Rattle.std.proofs.Common.{◌≡◌, ℕ, zero, suc, ◌+◌, ◌<◌, ◌≤◌, Bool, true, false, cond, ◌&&◌, not, List, [], ◌∷◌}
+use Rattle.std.proofs.Common.{length, map, refl, sym, ◌∙◌, ap, zero-add, inl, inr, arith, nat_le, ◌==◌, ◌⊎◌, sum}
+use Rattle.std.proofs.Common.{sum_by, count_by, find, Some, None}
 use Rattle.std.proofs.lemmas.List.Sums.{sum_by-cons}
 use Rattle.std.proofs.lemmas.Bool.{le-leb, lt-leb, and_left, and_right}
-use Rattle.race_model.specs.Ranks.{boards, numbers_from}
+use Rattle.race_model.specs.Prelude.{boards, numbers_from}
 use Rattle.race_model.proofs.Numbers.Sums.{sum-cons, sum_by-map, sum_by-flat_map, sum_by-equal, sum_by-zero, sum_by-add}
 use Rattle.race_model.proofs.Numbers.Tests.{nat_le-suc, eq-suc}
 
@@ -67,13 +66,13 @@ unfoldable pub one_more : List ℕ → List ℕ
 one_more [] = []
 one_more (c ∷ cs) = suc c ∷ cs
 
--- .. which leaves the length as it is
+-- one checker more leaves the length as it is
 pub length-one_more : (y : List ℕ) → length (one_more y) ≡ length y
 unfolding one_more
 length-one_more [] = refl
 length-one_more (c ∷ cs) = refl
 
--- .. and adds at most one to the sum
+-- one checker more adds at most one to the sum
 pub sum-one_more : (y : List ℕ) → sum (one_more y) ≤ suc (sum y)
 unfolding one_more
 sum-one_more [] = omega arith

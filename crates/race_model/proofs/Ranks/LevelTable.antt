@@ -3,7 +3,7 @@
 use Rattle.std.proofs.Common.{◌≡◌, ℕ, zero, suc, ◌+◌, ◌-◌, ◌<◌, ◌≤◌, List, [], ◌∷◌, length}
 use Rattle.std.proofs.Common.{cond, ne_eqb, slice_index, sym, ◌∙◌, ap, subst, arith}
 use Rattle.std.specs.Prelude.{⊤}
-use Rattle.race_model.specs.Ranks.{first_of}
+use Rattle.race_model.specs.Prelude.{first_of}
 use Rattle.race_model.proofs.Ranks.RankCounts.{ways, ways-nil, ways-zero, ways-used, used, used-low, used-more}
 use Rattle.race_model.proofs.Ranks.RankOrder.{count_to-step, first_of-suc, first_of-zero}
 
@@ -36,7 +36,7 @@ abbrev moved : ℕ → List ℕ → List ℕ
 moved zero xs = xs
 moved (suc p) xs = 0 ∷ moved p xs
 
--- .. where the values are zero
+-- p zeros before a row are right where the values are zero
 row-moved : (f : ℕ → ℕ) (m p : ℕ) (xs : List ℕ) → ((j : ℕ) → j < m + p → f j ≡ 0) →
     IsRow f (m + p) xs → IsRow f m (moved p xs)
 row-moved f m zero xs none row =
@@ -54,7 +54,7 @@ sums [] ys = []
 sums (x ∷ xs) [] = []
 sums (x ∷ xs) (y ∷ ys) = (x + y) ∷ sums xs ys
 
--- .. are those of the values
+-- the sums of two rows are a row of the sums of their values
 row-sums : (f g h : ℕ → ℕ) (m : ℕ) (xs ys : List ℕ) → ((j : ℕ) → f j + g j ≡ h j) →
     IsRow f m xs → IsRow g m ys → IsRow h m (sums xs ys)
 row-sums f g h m [] ys each one other = tt
@@ -70,7 +70,7 @@ rows_after p last [] = []
 rows_after p last (row ∷ rows) =
     let next = sums row (moved p last) in next ∷ rows_after p next rows
 
--- .. and all rows of one point more
+-- all rows of one point more
 abbrev rows_from : ℕ → List (List ℕ) → List (List ℕ)
 rows_from p [] = []
 rows_from p (row ∷ rows) = row ∷ rows_after p row rows
@@ -85,7 +85,7 @@ abbrev no_points : ℕ → List (List ℕ)
 no_points zero = []
 no_points (suc k) = (1 ∷ zeros 90) ∷ no_points k
 
--- .. and of lists of n counts, of the points from p on
+-- a row for each number of checkers, of n counts, of the points from p on
 abbrev table : ℕ → ℕ → List (List ℕ)
 table zero p = no_points 16
 table (suc n) p = rows_from p (table n (suc p))
@@ -111,7 +111,7 @@ table-no_points p k zero = tt
 table-no_points p k (suc n) =
     ((λ few. (sym (ways-nil p k 0), row-zeros p k 0 90)), table-no_points p (suc k) n)
 
--- .. then the rows of one point more are, after one that is
+-- the rows of one point more are right after a right one
 table-after : (n p k : ℕ) (last : List ℕ) (rows : List (List ℕ)) →
     (k ≤ 15 → IsRow (ways (suc n) p k) 0 last) → IsTable n (suc p) (suc k) rows →
     IsTable (suc n) p (suc k) (rows_after p last rows)
@@ -141,7 +141,7 @@ table-after n p k last (row ∷ rows) before rest =
           (moved p last) (λ j. sym (ways-used n p (suc k) j few)) (rest.0 few)
           (taken (omega (arith, few)))
 
--- .. and all of them
+-- all tables are right
 table-from : (n p : ℕ) (rows : List (List ℕ)) → IsTable n (suc p) 0 rows →
     IsTable (suc n) p 0 (rows_from p rows)
 table-from n p [] rest = tt
@@ -164,7 +164,7 @@ row_at k [] = []
 row_at zero (row ∷ rows) = row
 row_at (suc k) (row ∷ rows) = row_at k rows
 
--- .. and each of its rows
+-- each of the rows is that of its number of checkers
 table-row : (n p k j : ℕ) (rows : List (List ℕ)) → IsTable n p j rows → j + k ≤ 15 →
     IsRow (ways n p (j + k)) 0 (row_at k rows)
 table-row n p k j [] all few = tt
@@ -180,7 +180,7 @@ table-row n p (suc k) j (row ∷ rows) all few =
 unfoldable pub levels : List ℕ
 levels = row_at 15 (table 6 1)
 
--- .. they are the counts
+-- the computed numbers of positions of each pip count are the counts
 pub row-levels : IsRow (ways 6 1 15) 0 levels
 unfolding levels
 row-levels = table-row 6 1 15 0 (table 6 1) (table-all 6 1) (omega arith)
@@ -190,7 +190,7 @@ abbrev totals : ℕ → List ℕ → List ℕ
 totals first [] = first ∷ []
 totals first (x ∷ xs) = first ∷ totals (first + x) xs
 
--- .. where it is that of the counts, these are the counts of fewer pips
+-- where the first sum is that of the counts, the sums are the counts of fewer pips
 row-totals : (m first : ℕ) (xs : List ℕ) → first ≡ first_of m → IsRow (ways 6 1 15) m xs →
     IsRow first_of m (totals first xs)
 row-totals m first [] is row = (is, tt)
@@ -205,7 +205,7 @@ unfoldable pub firsts : List ℕ
 unfolding levels
 firsts = totals 0 levels
 
--- .. they are the counts
+-- the computed numbers of positions of fewer pips are the counts
 pub row-firsts : IsRow first_of 0 firsts
 unfolding levels firsts
 row-firsts = row-totals 0 0 levels (sym first_of-zero) row-levels

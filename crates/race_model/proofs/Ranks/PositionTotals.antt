@@ -1,11 +1,9 @@
 -- How many positions there are, in all and to a pip count, by sums that are cheap to compute.
-use Rattle.std.proofs.Common.{◌≡◌, ℕ, zero, suc, ◌+◌, ◌-◌, ◌<◌, ◌≤◌, ◌⊎◌, ⊎_elim, Bool, true}
-use Rattle.std.proofs.Common.{false, cond, not, ◌&&◌, List, length, refl, sym, ◌∙◌, ap, subst, inl, inr}
-use Rattle.std.proofs.Common.{arith, slice_index}
-use Rattle.std.specs.Prelude.{nat_le, ◌==◌}
+use Rattle.std.proofs.Common.{◌≡◌, ℕ, zero, suc, ◌+◌, ◌-◌, ◌<◌, ◌≤◌, ◌⊎◌, ⊎_elim, Bool, true, false, cond, not, ◌&&◌}
+use Rattle.std.proofs.Common.{List, length, refl, sym, ◌∙◌, ap, subst, inl, inr, arith, slice_index, nat_le, ◌==◌}
 use Rattle.std.proofs.lemmas.Bool.{le-leb, leb-true, and_parts, cases_lt}
-use Rattle.race_model.specs.Positions.{Board, IsPosition, pips, finished}
-use Rattle.race_model.specs.Ranks.{count_positions, rank, first_of, count_to, position_count, at_rank}
+use Rattle.race_model.specs.Prelude.{Board, IsPosition, pips, finished, count_positions, rank, first_of, count_to}
+use Rattle.race_model.specs.Prelude.{position_count, at_rank}
 use Rattle.race_model.proofs.Ranks.BoxCounts.{within, within-nil, within-zero, within-suc, within-add, within-none_on}
 use Rattle.race_model.proofs.Ranks.RankCounts.{ways, ways-nil, ways-zero, ways-low}
 use Rattle.race_model.proofs.Ranks.LevelTable.{levels, firsts, row-each, row-levels, row-firsts}
@@ -46,7 +44,7 @@ size-checkers : (n k : ℕ) → size n k ≤ size n (suc k)
 size-checkers zero k = omega arith
 size-checkers (suc n) k = omega arith
 
--- .. and more points too
+-- more points, more lists
 size-points : (n k : ℕ) → size n k ≤ size (suc n) k
 size-points n zero = omega arith
 size-points n (suc k) = omega arith
@@ -120,7 +118,7 @@ count_to-all b h =
           (le-leb (pips y) b
           (omega (arith, pips-range y (record { six = l; few = few })))))
 
--- .. so no more are found with fewer than 91 or more
+-- no more positions are found with fewer than 91 pips or more
 pub first_of-all : (b : ℕ) → 90 < b → first_of b ≡ 54264
 first_of-all zero h = absurd (omega arith)
 first_of-all (suc b) h = first_of-suc b ∙ count_to-all b (omega arith)
@@ -216,7 +214,7 @@ are_rising counts p zero = true
 are_rising counts p (suc n) =
     nat_le (slice_index counts p) (slice_index counts (25 + p)) && are_rising counts (suc p) n
 
--- .. so each of them has
+-- each level has no more positions than that 25 above it
 rising-each : (counts : List ℕ) (p n q : ℕ) → are_rising counts p n ≡ true → p ≤ q → q < p + n →
     slice_index counts q ≤ slice_index counts (25 + q)
 rising-each counts p zero q all low high = absurd (omega arith)

@@ -1,10 +1,8 @@
 -- How many lists have so many pips, how many of those are before one, and how ranks follow.
-use Rattle.std.proofs.Common.{◌≡◌, ℕ, zero, suc, ◌+◌, ◌-◌, ◌*◌, ◌<◌, ◌≤◌, ◌⊎◌, Bool, false, cond}
-use Rattle.std.proofs.Common.{◌&&◌, ◌||◌, List, [], ◌∷◌, length, refl, ◌∙◌, ap, inl, inr, arith}
-use Rattle.std.specs.Prelude.{nat_lt, ◌==◌, sum}
+use Rattle.std.proofs.Common.{◌≡◌, ℕ, zero, suc, ◌+◌, ◌-◌, ◌*◌, ◌<◌, ◌≤◌, ◌⊎◌, Bool, false, cond, ◌&&◌, ◌||◌, List, []}
+use Rattle.std.proofs.Common.{◌∷◌, length, refl, ◌∙◌, ap, inl, inr, arith, nat_lt, ◌==◌, sum}
 use Rattle.std.proofs.lemmas.Bool.{ne_eqb, lt-ltb, le-ltb, and_left, and_right, or_from, or_left, cases_lt}
-use Rattle.race_model.specs.Positions.{pips_from}
-use Rattle.race_model.specs.Ranks.{comes_first}
+use Rattle.race_model.specs.Prelude.{pips_from, comes_first}
 use Rattle.race_model.proofs.Numbers.Sums.{sum-cons}
 use Rattle.race_model.proofs.Ranks.BoxCounts.{within, one_more, within-same, within-same_cons}
 use Rattle.race_model.proofs.Ranks.BoxCounts.{within-none, within-none_cons, within-nil}

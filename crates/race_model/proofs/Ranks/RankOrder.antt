@@ -1,13 +1,12 @@
 -- What ranks are: they tell positions apart, rise with pips, and leave none out.
-use Rattle.std.proofs.Common.{◌≡◌, ℕ, zero, suc, ◌+◌, ◌-◌, ◌*◌, ◌<◌, ◌≤◌, ◌⊎◌, ◌↔◌, Bool, cond}
-use Rattle.std.proofs.Common.{◌&&◌, ◌||◌, not, List, [], ◌∷◌, length, refl, sym, ◌∙◌, ap, subst}
-use Rattle.std.proofs.Common.{zero-add, inl, inr, mul-le-mul_right, arith}
-use Rattle.std.specs.Prelude.{nat_lt, nat_le, ◌==◌, sum, count_by, find, None, unwrap_or}
+use Rattle.std.proofs.Common.{◌≡◌, ℕ, zero, suc, ◌+◌, ◌-◌, ◌*◌, ◌<◌, ◌≤◌, ◌⊎◌, ◌↔◌, Bool, cond, ◌&&◌, ◌||◌, not, List}
+use Rattle.std.proofs.Common.{[], ◌∷◌, length, refl, sym, ◌∙◌, ap, subst, zero-add, inl, inr, mul-le-mul_right, arith}
+use Rattle.std.proofs.Common.{nat_lt, nat_le, ◌==◌, sum, count_by, find, None, unwrap_or}
 use Rattle.std.proofs.lemmas.Bool.{eqb-true, eq-eqb, ne_eqb, leb-true, le-leb, lt-leb, ltb-true}
 use Rattle.std.proofs.lemmas.Bool.{lt-ltb, le-ltb, and_parts, not-false, cases_lt, cases_order}
 use Rattle.std.proofs.lemmas.Bool.{cases_eq}
-use Rattle.race_model.specs.Positions.{Board, IsPosition, pips_from, pips, checkers, finished}
-use Rattle.race_model.specs.Ranks.{comes_first, is_before, boards, count_positions, rank, first_of, count_to, at_rank}
+use Rattle.race_model.specs.Prelude.{Board, IsPosition, pips_from, pips, checkers, finished, comes_first, is_before}
+use Rattle.race_model.specs.Prelude.{boards, count_positions, rank, first_of, count_to, at_rank}
 use Rattle.race_model.proofs.Numbers.Sums.{sum-cons}
 use Rattle.race_model.proofs.Ranks.BoxCounts.{within, one_more, within-same, within-add}
 use Rattle.race_model.proofs.Ranks.BoxCounts.{within-none_on, within-some, IsFound, found_or_none}
@@ -67,7 +66,7 @@ first_of-add m (suc d) =
     let e : m + suc d ≡ suc (m + d) = omega arith in
     omega (arith, ap first_of e, first_of-suc (m + d), count_to-step (m + d), first_of-add m d)
 
--- .. so they rise
+-- the first ranks of levels rise
 pub first_of-rises : (m n : ℕ) → m ≤ n → first_of m ≤ first_of n
 first_of-rises m n h =
     let e : m + (n - m) ≡ n = omega arith in omega (arith, ap first_of e, first_of-add m (n - m))

@@ -8,18 +8,13 @@ use Rattle.std.specs.List.{concat}
 use Rattle.std.proofs.lemmas.List.{get_or_past}
 use Rattle.std.proofs.lemmas.List.Elements.{Contains-get_or}
 use Rattle.std.proofs.lemmas.Bool.{cases_lt}
-use Rattle.race_model.specs.Positions.{Board, IsPosition, checkers, pips, finished}
-use Rattle.race_model.specs.Dice.{Throw}
-use Rattle.race_model.specs.Plays.{Legal}
-use Rattle.race_model.specs.Ranks.{rank, at_rank}
-use Rattle.race_model.specs.Books.{Book, mean_in, play_in, recorded_in, share_in, IsPlayedIn}
-use Rattle.race_model.specs.Losses.{loss_in, IsListedBeforeIn, IsMoveListIn}
-use Rattle.race_model.specs.Queries.{Query, mean_query, dist_query, play_query, loss_query}
-use Rattle.race_model.specs.Queries.{moves_query, rank_query, IsQuery, HasTooMany, HasResult}
-use Rattle.race_model.specs.Queries.{subject, Refusal, IsRefused, IsWithinAlike}
-use Rattle.race_model.specs.Queries.{no_query, of_too_many, of_over_bound, of_finished, of_no_result}
-use Rattle.race_model.specs.Replies.{IsShareTextOver, IsMeanReplyOver, IsSharePartOver, IsDistReplyOver}
-use Rattle.race_model.specs.Replies.{IsPlayReply, IsAnswerOver, IsReplyOver, answered, refused}
+use Rattle.race_model.specs.Prelude.{Board, IsPosition, checkers, pips, finished, Throw, Legal, rank, at_rank, Book}
+use Rattle.race_model.specs.Prelude.{mean_in, play_in, recorded_in, share_in, IsPlayedIn, loss_in, IsListedBeforeIn}
+use Rattle.race_model.specs.Prelude.{IsMoveListIn, Query, mean_query, dist_query, play_query, loss_query, moves_query}
+use Rattle.race_model.specs.Prelude.{rank_query, IsQuery, HasTooMany, HasResult, subject, Refusal, IsRefused}
+use Rattle.race_model.specs.Prelude.{IsWithinAlike, no_query, of_too_many, of_over_bound, of_finished, of_no_result}
+use Rattle.race_model.specs.Prelude.{IsShareTextOver, IsMeanReplyOver, IsSharePartOver, IsDistReplyOver, IsPlayReply}
+use Rattle.race_model.specs.Prelude.{IsAnswerOver, IsReplyOver, answered, refused}
 use Rattle.race_model.proofs.Plays.Results.{legal_position, legal_pips}
 
 -- a number that is not over 15
@@ -82,7 +77,7 @@ pub record IsCarried (whole over : ℕ) (R : ℕ → ℕ → Type 0) : Type 0 wh
 abbrev pub IsLow : Book → Book → Board → Type 0
 IsLow f g x = (pips x ≤ f.bound) × (pips x ≤ g.bound)
 
--- .. and so what a throw leads to
+-- what a throw leads to from a position within the bounds of two books is within them
 lower : (f g : Book) (x : Board) (v : Throw) (y : Board) → IsLow f g x → Legal x v y → IsLow f g y
 lower f g x v y low legal =
     (le_trans (legal_pips x v y legal) low.0, le_trans (legal_pips x v y legal) low.1)

@@ -1,19 +1,18 @@
 -- How an input is cut into lines, and that nothing else cuts it so.
-use Rattle.std.proofs.Common.{◌≡◌, ◌≢◌, ℕ, eqb, Bool, true, false, cond, List, [], ◌∷◌, ◌++◌, All}
-use Rattle.std.proofs.Common.{refl, ap, sym, ◌∙◌, append_assoc, eqb-true}
-use Rattle.std.specs.Prelude.{flat_map}
+use Rattle.std.proofs.Common.{◌≡◌, ◌≢◌, ℕ, eqb, Bool, true, false, cond, List, [], ◌∷◌, ◌++◌, All, refl, ap, sym, ◌∙◌}
+use Rattle.std.proofs.Common.{append_assoc, eqb-true, flat_map}
 use Rattle.std.proofs.lemmas.Bool.{ne_eqb, eqb-false}
 use Rattle.std.proofs.Math.Path.{ap₂}
 use Rattle.std.proofs.lemmas.Grind.{flat_map-append}
 use Rattle.std.proofs.lemmas.List.{append-nil}
 use Rattle.std.proofs.lemmas.List.Elements.{All-append, All-cons, All-nil, All-head, All-tail}
-use Rattle.race_model.specs.InputLines.{before_first_piece, pieces, before_rest, rest_of, HasNoFeed, IsCut}
+use Rattle.race_model.specs.Prelude.{before_first_piece, pieces, before_rest, rest_of, HasNoFeed, IsCut}
 
 -- a byte that is no line feed is before what follows
 no_feed : (c : ℕ) → c ≢ 10 → eqb c 10 ≡ false
 no_feed c h = ne_eqb c 10 h
 
--- .. and belongs to the first piece, or to the rest
+-- a byte that is no line feed belongs to the first piece, or to the rest
 pieces_byte : (c : ℕ) (bytes : List ℕ) → c ≢ 10 → pieces (c ∷ bytes) ≡ before_first_piece c
     (pieces bytes)
 pieces_byte c bytes h = ap (λ b. cond b ([] ∷ pieces bytes) (before_first_piece c (pieces bytes)))
@@ -63,7 +62,7 @@ cut_after (p ∷ parts) t h =
       ap rest_of first ∙ here.1 ∙ more.1,
     )
 
--- .. and so an input that begins with them
+-- an input that begins with pieces is cut into these, and then what follows them is
 pub more_pieces : (input more : List ℕ) (parts : List (List ℕ)) (rest : List ℕ)
     → IsCut input parts rest
     → pieces (input ++ more) ≡ parts ++ pieces (rest ++ more)

@@ -2,11 +2,8 @@
 -- within the bounds of both or of none, whatever the number of throws of each.
 use Rattle.std.proofs.Common.{◌≡◌, ℕ, suc, ◌+◌, ◌*◌, ◌^◌, List, sym, ap, subst, ◌∙◌, arith}
 use Rattle.std.proofs.lemmas.Nat.{pow-add}
-use Rattle.race_model.specs.Books.{Book, whole_in, IsRightBook}
-use Rattle.race_model.specs.LocalEquations.{IsLong}
-use Rattle.race_model.specs.SameNumbers.{HasSamePlays}
-use Rattle.race_model.specs.Queries.{IsWithinAlike}
-use Rattle.race_model.specs.Replies.{IsReplyOver, IsReplyIn}
+use Rattle.race_model.specs.Prelude.{Book, whole_in, IsRightBook, IsLong, HasSamePlays, IsWithinAlike, IsReplyOver}
+use Rattle.race_model.specs.Prelude.{IsReplyIn}
 use Rattle.race_model.proofs.Books.Kinds.{further_mean, further_share, no_further_share}
 use Rattle.race_model.proofs.Replies.OneReply.{power_positive}
 use Rattle.race_model.proofs.Replies.EqualReplies.{Carries, same_reply}
@@ -52,7 +49,7 @@ module _ (f g : Book) (right_f : IsRightBook f) (right_g : IsRightBook g) (long 
       (same_reply (whole_in f) (36 ^ d * whole_in f) (λ a b. b ≡ 36 ^ d * a)
       (carried_up (36 ^ d) (whole_in f) (power_positive d)) f g up line text alike reply)
 
-  -- .. and the other way round
+  -- what the book over more throws replies, the other does
   pub reply_down : (line text : List ℕ) → IsWithinAlike f.bound g.bound line →
       IsReplyIn g line text → IsReplyIn f line text
   reply_down line text alike reply =

@@ -6,14 +6,12 @@ use Rattle.std.proofs.Common.{ne_eqb, cond, ◌⊎◌, inl, ◌<◌, inr}
 use Rattle.std.specs.List.{slice_split, join_with_byte}
 use Rattle.std.proofs.lemmas.List.Elements.{All-append, All-cons, All-nil}
 use Rattle.std.proofs.lemmas.List.Splits.{join_with_byte-slice_split, slice_split_at, slice_split_none}
-use Rattle.race_model.specs.Positions.{Board}
-use Rattle.race_model.specs.Dice.{Die, one, number, Throw, reversed, IsRoll}
+use Rattle.race_model.specs.Prelude.{Board, Die, one, number, Throw, reversed, IsRoll, is_digit, is_leading_digit}
+use Rattle.race_model.specs.Prelude.{count_value, IsPositionText, Query, subject, mean_query, dist_query, play_query}
+use Rattle.race_model.specs.Prelude.{loss_query, moves_query, rank_query, dice_text, IsRollText, IsQuery, words}
+use Rattle.race_model.specs.Prelude.{HasWords}
 use Rattle.race_model.proofs.Dice.Faces.{same_number}
 use Rattle.race_model.proofs.Numbers.Tests.{both_tests, tested}
-use Rattle.race_model.specs.PositionText.{is_digit, is_leading_digit, count_value, IsPositionText}
-use Rattle.race_model.specs.Queries.{Query, subject, mean_query, dist_query, play_query, loss_query}
-use Rattle.race_model.specs.Queries.{moves_query, rank_query, dice_text, IsRollText, IsQuery, words}
-use Rattle.race_model.specs.Queries.{HasWords}
 
 -- the byte is no space
 abbrev IsNoSpace : ℕ → Type 0
@@ -25,7 +23,7 @@ digit_no_space c e =
     let low = leb-true 48 c (both_tests (leb 48 c) (leb c 57) e).0 in
     ne_eqb c 32 (omega (arith, low))
 
--- .. nor is a digit from 1 on
+-- a digit from 1 on is no space
 leading_no_space : (c : ℕ) → is_leading_digit c ≡ true → IsNoSpace c
 leading_no_space c e =
     let low = leb-true 49 c (both_tests (leb 49 c) (leb c 57) e).0 in
@@ -58,7 +56,7 @@ count_text (a ∷ b ∷ c ∷ []) n e =
     )
 count_text (a ∷ b ∷ c ∷ d ∷ more) n e = absurd (cc)
 
--- .. and so has the text of counts with commas between
+-- the text of counts with commas between has no space, and few bytes
 counts_text : (w : List ℕ) (ws : List (List ℕ)) (ns : List ℕ) →
     map count_value (w ∷ ws) ≡ map (λ n. Some n) ns →
     (length (join_with_byte 44 (w ∷ ws)) + 1 ≤ 4 * length ns)
@@ -110,20 +108,20 @@ roll_text r v is = ⊎_elim (λ e. of v e) (λ e. of (reversed v) e) is.digits
 words-one : (a : List ℕ) → All IsNoSpace a → words a ≡ a ∷ []
 words-one a h = slice_split_none (λ c. eqb c 32) a h
 
--- .. of a word and more
+-- the words of a line of a word and more
 words-more : (a rest : List ℕ) → All IsNoSpace a → words (a ++ 32 ∷ rest) ≡ a ∷ words rest
 words-more a rest h = slice_split_at (λ c. eqb c 32) a 32 rest h refl
 
--- .. of two words
+-- the words of a line of two
 words-two : (a p : List ℕ) → All IsNoSpace a → All IsNoSpace p → words (a ++ 32 ∷ p) ≡ a ∷ p ∷ []
 words-two a p h k = words-more a p h ∙ ap (λ ws. a ∷ ws) (words-one p k)
 
--- .. of three
+-- the words of a line of three
 words-three : (a p r : List ℕ) → All IsNoSpace a → All IsNoSpace p → All IsNoSpace r →
     words (a ++ 32 ∷ (p ++ 32 ∷ r)) ≡ a ∷ p ∷ r ∷ []
 words-three a p r h k l = words-more a (p ++ 32 ∷ r) h ∙ ap (λ ws. a ∷ ws) (words-two p r k l)
 
--- .. of four
+-- the words of a line of four
 words-four : (a p r q : List ℕ) → All IsNoSpace a → All IsNoSpace p → All IsNoSpace r →
     All IsNoSpace q → words (a ++ 32 ∷ (p ++ 32 ∷ (r ++ 32 ∷ q))) ≡ a ∷ p ∷ r ∷ q ∷ []
 words-four a p r q h k l m =
@@ -138,7 +136,7 @@ abbrev has_no_space : List ℕ → Bool
 has_no_space [] = true
 has_no_space (c ∷ cs) = not (eqb c 32) && has_no_space cs
 
--- .. and then it has none
+-- a list in which no space is found by computation has none
 no_space_in : (a : List ℕ) → has_no_space a ≡ true → All IsNoSpace a
 no_space_in [] e = All-nil IsNoSpace
 no_space_in (c ∷ cs) e =
@@ -153,7 +151,7 @@ no_space_in (c ∷ cs) e =
 three_parts : (a p r : List ℕ) → a ++ p ++ (32 ∷ []) ++ r ≡ a ++ (p ++ 32 ∷ r)
 three_parts a p r = append_assoc (a ++ p) (32 ∷ []) r ∙ append_assoc a p (32 ∷ r)
 
--- .. and of four
+-- four parts with a space between, bracketed the other way
 four_parts : (a p r q : List ℕ) →
     a ++ p ++ (32 ∷ []) ++ r ++ (32 ∷ []) ++ q ≡ a ++ (p ++ 32 ∷ (r ++ 32 ∷ q))
 four_parts a p r q =
@@ -265,7 +263,7 @@ same_values (x ∷ xs) (y ∷ ys) e = ap₂ (λ c cs. c ∷ cs) (cc) (same_value
 pub one_position : (p : List ℕ) (x y : Board) → IsPositionText p x → IsPositionText p y → x ≡ y
 one_position p x y a b = same_values x y (sym a.each ∙ b.each)
 
--- .. and of one roll
+-- a text is that of one roll
 one_roll : (r : List ℕ) (v w : Throw) → IsRollText r v → IsRollText r w → v ≡ w
 one_roll r v w a b = ⊎_elim
     (λ e.

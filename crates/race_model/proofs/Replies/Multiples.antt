@@ -2,8 +2,7 @@
 -- have the same text and the same order.
 use Rattle.std.proofs.Common.{◌≡◌, ℕ, ◌-◌, ◌*◌, ◌<◌, List, sym, ap, ap₂, subst, subst₂, ◌∙◌, arith}
 use Rattle.std.proofs.Math.Nat.{mul-sub, eq_of_mul-eq-mul_left, lt_of_mul-lt-mul_left, mul-lt-mul_of_pos_left}
-use Rattle.race_model.specs.Fractions.{IsFraction}
-use Rattle.race_model.specs.Replies.{IsShareTextOver, IsMeanReplyOver}
+use Rattle.race_model.specs.Prelude.{IsFraction, IsShareTextOver, IsMeanReplyOver}
 use Rattle.race_model.proofs.Replies.EqualReplies.{IsCarried}
 
 -- a number times another
@@ -18,8 +17,8 @@ module _ (c whole : ℕ) (some : 0 < c) where
     more : (p q : ℕ) → p ≡ q → n * (c * whole) ≡ c * a * d
     more p q e = omega (arith, ap (λ m. c * m) is.same)
 
-  -- .. and the other way round
-  fraction_down : (a n d : ℕ) → IsFraction (c * a) (c * whole) n d → IsFraction a whole n d
+  -- a fraction of numbers is that of their multiples
+  pub fraction_down : (a n d : ℕ) → IsFraction (c * a) (c * whole) n d → IsFraction a whole n d
   fraction_down a n d is = record {
     same = eq_of_mul-eq-mul_left c some (n * whole) (a * d) (omega (arith, is.same));
     positive = is.positive;
@@ -107,7 +106,7 @@ module _ (c whole : ℕ) (some : 0 < c) where
     some = λ a b e less. some_down a (subst (λ n. 0 < n) e less);
   }
 
-  -- .. and the numbers for their multiples
+  -- numbers stand for their multiples
   pub carried_down : IsCarried (c * whole) whole (λ a b. a ≡ c * b)
   carried_down = record {
     text = λ a b t e is. text_down b t (subst (λ n. IsShareTextOver (c * whole) n t) e is);

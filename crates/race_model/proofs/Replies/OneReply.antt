@@ -4,22 +4,13 @@ use Rattle.std.proofs.Common.{get_or, flat_map, slice_index_or, codes, decimal, 
 use Rattle.std.proofs.Common.{subst, ◌∙◌, arith}
 use Rattle.std.proofs.Math.Nat.{one-le-pow}
 use Rattle.std.specs.List.{concat}
-use Rattle.race_model.specs.Positions.{Board, finished, pips}
-use Rattle.race_model.specs.Dice.{Throw}
-use Rattle.race_model.specs.Ranks.{rank}
-use Rattle.race_model.specs.LocalEquations.{whole}
-use Rattle.race_model.specs.Books.{Book}
-use Rattle.race_model.specs.Fractions.{IsThousandths}
-use Rattle.race_model.specs.Losses.{loss_in, IsListedBeforeIn}
-use Rattle.race_model.specs.FirstPlays.{move_text}
-use Rattle.race_model.specs.Queries.{Query, mean_query, dist_query, play_query, loss_query}
-use Rattle.race_model.specs.Queries.{moves_query, rank_query, Refusal, HasTooMany, AsksOfFinished}
-use Rattle.race_model.specs.Queries.{HasResult, subject, IsRefused, no_query, of_too_many}
-use Rattle.race_model.specs.Queries.{of_over_bound, of_finished, of_no_result, IsAccepted}
-use Rattle.race_model.specs.Replies.{fraction_text, thousandths_text, IsShareTextOver, IsMeanReplyOver}
-use Rattle.race_model.specs.Replies.{IsSharePartOver, IsDistReplyOver, IsPlayReply, IsChoicePartOver}
-use Rattle.race_model.specs.Replies.{IsMovesReplyOver, IsAnswerOver, refusal_text, IsReplyOver, answered}
-use Rattle.race_model.specs.Replies.{refused}
+use Rattle.race_model.specs.Prelude.{Board, finished, pips, Throw, rank, whole, Book, IsThousandths, loss_in}
+use Rattle.race_model.specs.Prelude.{IsListedBeforeIn, move_text, Query, mean_query, dist_query, play_query, loss_query}
+use Rattle.race_model.specs.Prelude.{moves_query, rank_query, Refusal, HasTooMany, AsksOfFinished, HasResult, subject}
+use Rattle.race_model.specs.Prelude.{IsRefused, no_query, of_too_many, of_over_bound, of_finished, of_no_result}
+use Rattle.race_model.specs.Prelude.{IsAccepted, fraction_text, thousandths_text, IsShareTextOver, IsMeanReplyOver}
+use Rattle.race_model.specs.Prelude.{IsSharePartOver, IsDistReplyOver, IsPlayReply, IsChoicePartOver, IsMovesReplyOver}
+use Rattle.race_model.specs.Prelude.{IsAnswerOver, refusal_text, IsReplyOver, answered, refused}
 use Rattle.race_model.proofs.Numbers.LowestTerms.{one_fraction, one_number_of_thousandths}
 use Rattle.race_model.proofs.Replies.Lines.{one_query}
 use Rattle.race_model.proofs.Plays.PlayOrder.{one_first_play}
@@ -298,6 +289,6 @@ pub whole_positive : 0 < whole
 unfolding whole
 whole_positive = omega arith
 
--- .. whatever the number of throws
+-- the denominator is not 0, whatever the number of throws
 pub power_positive : (m : ℕ) → 0 < 36 ^ m
 power_positive m = omega (arith, one-le-pow m 36 (omega arith))

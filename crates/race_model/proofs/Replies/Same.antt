@@ -1,12 +1,6 @@
 -- Two right files that record the same plays give the same reply to each line.
 use Rattle.std.proofs.Common.{ℕ, ◌≤◌, List, refl, sym, subst}
-use Rattle.race_model.specs.Positions.{pips}
-use Rattle.race_model.specs.Queries.{subject}
-use Rattle.race_model.specs.LocalEquations.{whole}
-use Rattle.race_model.specs.RightFiles.{IsRightDatabase}
-use Rattle.race_model.specs.Files.{book_of}
-use Rattle.race_model.specs.SameNumbers.{HasSameNumbers}
-use Rattle.race_model.specs.Replies.{IsReply}
+use Rattle.race_model.specs.Prelude.{pips, subject, whole, IsRightDatabase, book_of, HasSameNumbers, IsReply}
 use Rattle.race_model.proofs.RightFiles.Right.{short}
 use Rattle.race_model.proofs.Replies.Kinds.{reply_up}
 

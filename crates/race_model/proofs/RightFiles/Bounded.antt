@@ -1,12 +1,8 @@
 -- How large recorded numbers can be where the equations hold: no mean is over as many rolls as the
 -- game can take.
 use Rattle.std.proofs.Common.{ℕ, ◌*◌, ◌<◌, ◌≤◌, List, sum_by, ap, arith}
-use Rattle.race_model.specs.Positions.{Board, IsPosition, IsFinished}
-use Rattle.race_model.specs.Dice.{Throw, throws}
-use Rattle.race_model.specs.Ranks.{rank}
-use Rattle.race_model.specs.Files.{mean, book_of}
-use Rattle.race_model.specs.LocalEquations.{recorded, whole, IsPlayed, HasLeastMean}
-use Rattle.race_model.specs.Strategies.{EndsIn}
+use Rattle.race_model.specs.Prelude.{Board, IsPosition, IsFinished, Throw, throws, rank, mean, book_of, recorded, whole}
+use Rattle.race_model.specs.Prelude.{IsPlayed, HasLeastMean, EndsIn}
 use Rattle.race_model.proofs.Numbers.Sums.{sum_by-at_most, sum_by-constant}
 use Rattle.race_model.proofs.Dice.RollSums.{length-throws}
 use Rattle.race_model.proofs.Plays.Results.{legal_position, legal_fewer_pips}

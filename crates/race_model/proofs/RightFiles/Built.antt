@@ -1,10 +1,6 @@
 -- Two built files of one bound agree on every number, since their books do.
 use Rattle.std.proofs.Common.{ℕ, List, refl, sym, ◌∙◌, le_trans, le_of_eq}
-use Rattle.race_model.specs.Versions.{Version}
-use Rattle.race_model.specs.Files.{book_of}
-use Rattle.race_model.specs.Books.{recorded_in}
-use Rattle.race_model.specs.BuiltFile.{IsBuilt}
-use Rattle.race_model.specs.SameNumbers.{HasSameNumbers}
+use Rattle.race_model.specs.Prelude.{Version, book_of, recorded_in, IsBuilt, HasSameNumbers}
 use Rattle.race_model.proofs.Books.Kinds.{HasBestPlays}
 use Rattle.race_model.proofs.Books.OneBook.{one_book}
 use Rattle.race_model.proofs.RightFiles.Right.{right_of_local}

@@ -2,15 +2,13 @@
 use Rattle.std.proofs.Common.{◌≡◌, ⊎_elim, ℕ, zero, suc, ◌+◌, ◌<◌, ◌≤◌, List, cond, refl, ap, ap₂, arith}
 use Rattle.std.proofs.lemmas.Bool.{le-leb, lt-leb, cases_lt}
 use Rattle.std.specs.Int.{w64, w128, from_be_bytes}
-use Rattle.race_model.specs.Horizon.{most_rolls}
-use Rattle.race_model.specs.Files.{bytes_at}
-use Rattle.race_model.specs.BoardFiles.{Parts, value_of_parts, count_place, count_parts, told_count}
+use Rattle.race_model.specs.Prelude.{most_rolls, bytes_at, Parts, value_of_parts, count_place, count_parts, told_count}
 
 -- two parts
 abbrev pub parts_of : ℕ → ℕ → Parts
 parts_of upper lower = record { upper = upper; lower = lower }
 
--- .. that are alike
+-- two parts that are alike
 pub same_parts : {a b c d : ℕ} → a ≡ b → c ≡ d → parts_of a c ≡ parts_of b d
 same_parts e r = ap₂ parts_of e r
 
@@ -39,7 +37,7 @@ pub count-long : (bs : List ℕ) (k : ℕ) → 22 < k →
 unfolding count_parts
 count-long bs k many = rw (lt-leb k 11 (omega arith), lt-leb k 22 many) refl
 
--- .. is the one that is told, to the most rolls of the pip count
+-- the count in the bytes of a record is the one that is told, to the most rolls of the pip count
 pub told_some : (p k : ℕ) (bs : List ℕ) → 0 < k → k ≤ most_rolls p →
     told_count p bs k ≡ value_of_parts (count_parts bs k)
 told_some p zero bs some within = absurd (omega arith)

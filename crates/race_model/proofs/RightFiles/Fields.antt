@@ -4,9 +4,8 @@ use Rattle.std.proofs.Common.{get_or, take, refl, ap, ap₂, sym, subst, ◌∙�
 use Rattle.std.specs.Int.{w16, w64, w128, from_be_bytes}
 use Rattle.std.proofs.Math.Seq.{take-add}
 use Rattle.std.proofs.lemmas.List.{take_all}
-use Rattle.race_model.specs.Positions.{Board, IsPosition, pips}
-use Rattle.race_model.specs.Ranks.{rank, at_rank, count_to}
-use Rattle.race_model.specs.Files.{Layout, IsBytes, IsFileBy, bytes_at, bound_of, place_by, header_by}
+use Rattle.race_model.specs.Prelude.{Board, IsPosition, pips, rank, at_rank, count_to, Layout, IsBytes, IsFileBy}
+use Rattle.race_model.specs.Prelude.{bytes_at, bound_of, place_by, header_by}
 use Rattle.race_model.proofs.FirstFaults.HeaderFacts.{small_bytes}
 use Rattle.race_model.proofs.FirstFaults.Questions.{within_bound}
 use Rattle.race_model.proofs.Ranks.RankOrder.{rank_bound}
@@ -60,13 +59,13 @@ pub record AreBytes (size : ℕ) (f g : List ℕ) : Type 0 where
 abbrev pub AreSameTo : List ℕ → List ℕ → ℕ → Type 0
 AreSameTo f g n = take n f ≡ take n g
 
--- .. and further, with the same bytes there
+-- two files that are the same to a place are so further, with the same bytes there
 further : (f g : List ℕ) (p n : ℕ) → AreSameTo f g p → bytes_at f p n ≡ bytes_at g p n →
     AreSameTo f g (p + n)
 further f g p n same e =
     take-add p n f ∙ ap₂ (λ (xs ys : List ℕ). xs ++ ys) same e ∙ sym (take-add p n g)
 
--- .. to their end
+-- two files that are the same to their end are one
 same_whole : (n : ℕ) (f g : List ℕ) → length f ≡ n → length g ≡ n → AreSameTo f g n → f ≡ g
 same_whole n f g long_f long_g same =
     sym (take_all n f (omega (arith, long_f))) ∙ same ∙ take_all n g (omega (arith, long_g))
@@ -90,7 +89,7 @@ module _ {size : ℕ} {f g : List ℕ} (two : AreBytes size f g) where
       (small_bytes f p (suc n) two.small_f) (small_bytes g p (suc n) two.small_g) n e i
       (omega (arith, lt, long)))))
 
-  -- .. of two bytes, of eight, and of sixteen
+  -- the same number of two bytes, of eight, and of sixteen
   short : {q : ℕ} (p : ℕ) → p + 2 ≡ q → q ≤ size →
       from_be_bytes w16 (bytes_at f p 2) ≡ from_be_bytes w16 (bytes_at g p 2) →
       AreSameTo f g p → AreSameTo f g q
@@ -110,7 +109,7 @@ module _ {size : ℕ} {f g : List ℕ} (two : AreBytes size f g) where
       number 15 p end within
       (sym (by_sixteen (bytes_at f p 16)) ∙ e ∙ by_sixteen (bytes_at g p 16))
 
-  -- .. and of as many numbers of two bytes
+  -- the same bytes of as many numbers of two bytes
   pub shorts : (p n : ℕ) {q : ℕ} → p + 2 * n ≡ q → q ≤ size →
       ((i : ℕ) → i < n →
       from_be_bytes w16 (bytes_at f (p + 2 * i) 2) ≡ from_be_bytes w16 (bytes_at g (p + 2 * i) 2)) →
@@ -138,7 +137,7 @@ module _ (layout : Layout) (width : ℕ → ℕ) (places : layout.place ≡ plac
   long h file bound =
       file.whole ∙ ap₂ (λ (place : ℕ → ℕ) b. place (count_to b)) places (sym bound)
 
-  -- .. and so are their records
+  -- their records are the same
   records_two : (r : ℕ) → r < count →
       AreBytes (width (pips (at_rank r))) (record_of f r) (record_of g r)
   records_two r under = record {

@@ -1,11 +1,8 @@
 -- The kind of a file is that of its header, so a right file is a right database or board file.
 use Rattle.std.proofs.Common.{◌≡◌, ◌⊎◌, inl, inr, Bool, true, false, ℕ, ◌^◌, ◌<◌, ◌==◌, List}
 use Rattle.std.proofs.Common.{refl, ap, sym, subst, ◌∙◌, arith}
-use Rattle.race_model.specs.Versions.{Version, full, compact, version_number}
-use Rattle.race_model.specs.Files.{layout_of, version_of}
-use Rattle.race_model.specs.BoardFiles.{board_layout}
-use Rattle.race_model.specs.RightFiles.{kind_by, kind_of}
-use Rattle.race_model.specs.RightFiles.{IsRightBy, IsRight, IsRightDatabase, IsRightBoard}
+use Rattle.race_model.specs.Prelude.{Version, full, compact, version_number, layout_of, version_of, board_layout}
+use Rattle.race_model.specs.Prelude.{kind_by, kind_of, IsRightBy, IsRight, IsRightDatabase, IsRightBoard}
 use Rattle.race_model.proofs.FirstFaults.HeaderFacts.{stated_number}
 
 -- no version of a database is 3
@@ -27,7 +24,7 @@ right_of_database f right =
     fits full = omega arith
     fits compact = omega arith
 
--- .. and so is a right board file
+-- a right board file is a right file
 pub right_of_board : (f : List ℕ) → IsRightBoard f → IsRight f
 unfolding kind_of
 right_of_board f right =

@@ -1,15 +1,11 @@
 -- Where the records of a file stand: each behind the one before it.
 use Rattle.std.proofs.Common.{◌≡◌, ℕ, zero, suc, ◌+◌, ◌-◌, ◌*◌, ◌<◌, ◌≤◌, List, length, drop}
-use Rattle.std.proofs.Common.{sum_by, refl, ap, ◌∙◌, arith, le_trans, length-take}
+use Rattle.std.proofs.Common.{sum_by, refl, ap, ◌∙◌, arith, length-take}
 use Rattle.std.proofs.Common.{length-drop}
 use Rattle.std.proofs.lemmas.List.Sums.{sum_by-cons}
-use Rattle.race_model.specs.Positions.{pips}
-use Rattle.race_model.specs.Ranks.{at_rank, count_to, numbers_from}
-use Rattle.race_model.specs.Versions.{Version, full, compact, record_length}
-use Rattle.race_model.specs.Files.{bytes_at, place_by, record_place}
-use Rattle.race_model.specs.BoardFiles.{board_place, board_length}
+use Rattle.race_model.specs.Prelude.{pips, at_rank, numbers_from, Version, full, compact, record_length, bytes_at}
+use Rattle.race_model.specs.Prelude.{place_by, record_place, board_place, board_length}
 use Rattle.race_model.proofs.Strategies.Horizons.{most_rolls-most}
-use Rattle.race_model.proofs.FirstFaults.Questions.{within_bound}
 
 -- so many bytes of a file that is long enough
 pub length-bytes_at : (f : List ℕ) (place n : ℕ) → place + n ≤ length f →
@@ -49,7 +45,7 @@ module _ (size : ℕ → ℕ) where
   unfolding place_by numbers_from
   place_by-first = refl
 
-  -- .. and each behind the one before it
+  -- each record stands behind the one before it
   pub place_by-next : (r : ℕ) →
       place_by size (suc r) ≡ place_by size r + size (pips (at_rank r))
   unfolding place_by
@@ -83,7 +79,7 @@ module _ (size : ℕ → ℕ) where
       later : (r n : ℕ) → r + suc n ≡ suc (r + n)
       later r n = omega arith
 
-  -- .. and records of no more than one length begin no later
+  -- records of no more than one length begin no later than of that length
   pub place_by-at_most : (length r : ℕ) →
       ((k : ℕ) → k < r → size (pips (at_rank k)) ≤ length) →
       place_by size r ≤ 32 + length * r
@@ -131,7 +127,7 @@ pub record_place-by : (version : Version) (r : ℕ) →
 unfolding record_place
 record_place-by version r = refl
 
--- .. and those of a board file
+-- the places of the records of a board file
 pub board_place-by : (r : ℕ) → board_place r ≡ place_by board_length r
 unfolding board_place
 board_place-by r = refl
@@ -145,7 +141,7 @@ header_before version r =
 pub record_place-first : (version : Version) → record_place version 0 ≡ 32
 record_place-first version = record_place-by version 0 ∙ place_by-first (record_length version)
 
--- .. and each behind the one before it
+-- each record of a version stands behind the one before it
 pub record_place-next : (version : Version) (r : ℕ) →
     record_place version (suc r) ≡ record_place version r + length_at version r
 record_place-next version r =
@@ -176,16 +172,3 @@ record_place-rises version r n =
 pub record_length-most : (version : Version) (p : ℕ) → p ≤ 58 → record_length version p ≤ 426
 record_length-most full p low = omega arith
 record_length-most compact p low = omega (arith, most_rolls-most p low)
-
--- .. so no record of at most 58 pips begins later than full ones would
-pub record_place-most : (version : Version) (r : ℕ) → r ≤ count_to 58 →
-    record_place version r ≤ 32 + 426 * r
-record_place-most version r under =
-    omega (
-      arith,
-      record_place-by version r,
-      place_by-at_most (record_length version) 426 r
-          (λ k below.
-          record_length-most version (pips (at_rank k))
-          (within_bound 58 k (le_trans below under)).1),
-    )

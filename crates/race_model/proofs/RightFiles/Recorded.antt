@@ -1,11 +1,8 @@
 -- What a recorded play leads to: a position of lower rank, so one that the file records.
 use Rattle.std.proofs.Common.{◌≡◌, ℕ, ◌<◌, ◌≤◌, List}
 use Rattle.std.proofs.Common.{ap, sym, subst, ◌∙◌, le_trans}
-use Rattle.race_model.specs.Positions.{Board, IsPosition, IsFinished, pips}
-use Rattle.race_model.specs.Dice.{Throw}
-use Rattle.race_model.specs.Ranks.{rank, count_to}
-use Rattle.race_model.specs.Files.{play}
-use Rattle.race_model.specs.LocalEquations.{recorded, IsPlayed}
+use Rattle.race_model.specs.Prelude.{Board, IsPosition, IsFinished, pips, Throw, rank, count_to, play, recorded}
+use Rattle.race_model.specs.Prelude.{IsPlayed}
 use Rattle.race_model.proofs.Plays.Results.{legal_position, legal_pips, legal_fewer_pips, legal_finished, only_finished}
 use Rattle.race_model.proofs.Ranks.RankOrder.{rank_bound, rank-fewer}
 use Rattle.race_model.proofs.Ranks.PositionTotals.{rank-finished}

@@ -1,12 +1,7 @@
 -- The local equations hold of a file exactly where it is right, since they do of its book.
 use Rattle.std.proofs.Common.{ℕ, ◌≤◌, List, le_trans, arith}
-use Rattle.race_model.specs.Positions.{Board, IsPosition, pips}
-use Rattle.race_model.specs.Versions.{Version, full, compact, greatest_bound}
-use Rattle.race_model.specs.Files.{IsFile, version_of, bound_of}
-use Rattle.race_model.specs.LocalEquations.{IsLocalDatabase}
-use Rattle.race_model.specs.Strategies.{EndsIn}
-use Rattle.race_model.specs.RightFiles.{IsRightDatabase}
-use Rattle.race_model.specs.Files.{book_of}
+use Rattle.race_model.specs.Prelude.{Board, IsPosition, pips, Version, full, compact, greatest_bound, IsFile}
+use Rattle.race_model.specs.Prelude.{version_of, bound_of, IsLocalDatabase, EndsIn, IsRightDatabase, book_of}
 use Rattle.race_model.proofs.Strategies.Horizons.{ends_in_22}
 use Rattle.race_model.proofs.Books.FromLocal as from_local
 use Rattle.race_model.proofs.Books.FromRight as from_right

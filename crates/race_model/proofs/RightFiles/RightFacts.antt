@@ -1,17 +1,12 @@
 -- What follows of a right file, as it does of its book: its means are those of every other, its
 -- shares add up, and a loss is what a play costs.
-use Rattle.std.proofs.Common.{◌≡◌, ℕ, ◌≤◌, List, sum_by, le_trans}
+use Rattle.std.proofs.Common.{◌≡◌, ℕ, ◌≤◌, List, sum_by}
 use Rattle.std.specs.List.{range_with_len}
-use Rattle.race_model.specs.Positions.{Board, IsPosition, pips}
-use Rattle.race_model.specs.Dice.{Throw}
-use Rattle.race_model.specs.Plays.{Legal}
-use Rattle.race_model.specs.Files.{bound_of, mean, mean_at, play, spread, book_of}
-use Rattle.race_model.specs.LocalEquations.{whole}
-use Rattle.race_model.specs.RightFiles.{IsRightDatabase}
-use Rattle.race_model.specs.Losses.{IsLoss, loss}
+use Rattle.race_model.specs.Prelude.{Board, IsPosition, pips, Throw, Legal, bound_of, mean, mean_at, play, spread}
+use Rattle.race_model.specs.Prelude.{book_of, whole, IsRightDatabase, IsLoss, loss}
 use Rattle.race_model.proofs.Strategies.LeastExists.{least_in_agree}
 use Rattle.race_model.proofs.Books.Losses as books
-use Rattle.race_model.proofs.RightFiles.Right.{bound_of-most, short}
+use Rattle.race_model.proofs.RightFiles.Right.{short}
 
 -- two right files agree on the mean of each position of both
 pub means_agree : (f g : List ℕ) → IsRightDatabase f → IsRightDatabase g → (x : Board) →
@@ -19,10 +14,6 @@ pub means_agree : (f g : List ℕ) → IsRightDatabase f → IsRightDatabase g �
 means_agree f g right_f right_g x at low_f low_g =
     least_in_agree 22 x (mean f x) (mean g x) (right_f.book x at low_f).least
     (right_g.book x at low_g).least
-
--- a position of at most the bound of a right file has at most 58 pips
-pub within_58 : (f : List ℕ) → IsRightDatabase f → (x : Board) → pips x ≤ bound_of f → pips x ≤ 58
-within_58 f right x low = le_trans low (bound_of-most f right.file)
 
 -- a position of at most the bound
 module _ (f : List ℕ) (right : IsRightDatabase f) (x : Board)

@@ -2,20 +2,13 @@
 -- byte one: databases of one version, and board files whose numbers are written in the one way.
 use Rattle.std.proofs.Common.{◌≡◌, ℕ, zero, suc, ◌+◌, ◌-◌, ◌*◌, ◌^◌, ◌<◌, ◌≤◌, List, refl, ap}
 use Rattle.std.proofs.Common.{sym, subst, ◌∙◌, arith, add-one, le_trans}
-use Rattle.race_model.specs.Positions.{Board, IsPosition, pips}
-use Rattle.race_model.specs.Dice.{roll_at}
-use Rattle.race_model.specs.Ranks.{rank, at_rank}
-use Rattle.race_model.specs.Horizon.{most_rolls}
-use Rattle.race_model.specs.Books.{Book}
-use Rattle.race_model.specs.Versions.{Version, full, compact, first_share, share_count, record_length}
-use Rattle.race_model.specs.Files.{IsBytes, bytes_at, version_of, bound_of, IsFileBy, IsFile, layout_of, record_place}
-use Rattle.race_model.specs.Files.{told_record, record_at, mean_of, play_of, share_of, mean_at}
-use Rattle.race_model.specs.Files.{play_at, spread_at, book_of}
-use Rattle.race_model.specs.BoardFiles.{Parts, value_of_parts, count_place, board_layout, board_length}
-use Rattle.race_model.specs.BoardFiles.{board_place, board_record, mean_parts, board_play_of}
-use Rattle.race_model.specs.BoardFiles.{count_parts, count_at, board_book}
-use Rattle.race_model.specs.RightFiles.{IsRightBoard}
-use Rattle.race_model.specs.SameNumbers.{HasSameNumbersIn, HasSameNumbers}
+use Rattle.race_model.specs.Prelude.{Board, IsPosition, pips, roll_at, rank, at_rank, most_rolls, Book, Version, full}
+use Rattle.race_model.specs.Prelude.{compact, first_share, share_count, record_length, IsBytes, bytes_at, version_of}
+use Rattle.race_model.specs.Prelude.{bound_of, IsFileBy, IsFile, layout_of, record_place, told_record, record_at}
+use Rattle.race_model.specs.Prelude.{mean_of, play_of, share_of, mean_at, play_at, spread_at, book_of, Parts}
+use Rattle.race_model.specs.Prelude.{value_of_parts, count_place, board_layout, board_length, board_place, board_record}
+use Rattle.race_model.specs.Prelude.{mean_parts, board_play_of, count_parts, count_at, board_book, IsRightBoard}
+use Rattle.race_model.specs.Prelude.{HasSameNumbersIn, HasSameNumbers}
 use Rattle.race_model.proofs.Dice.Throws.{roll_of_index}
 use Rattle.race_model.proofs.Numbers.LowestTerms.{cancel}
 use Rattle.race_model.proofs.Ranks.RankOrder.{at_rank-rank, pips-range}
@@ -69,7 +62,7 @@ module _ (f g : List ℕ) (small_f : IsBytes f) (small_g : IsBytes g) (file_f : 
           ∙ ap mean_of full_record
           ∙ told_mean version (ranked_pips x) (stored g) few two.long_g
 
-      -- .. the same plays
+      -- it says the same plays
       same_play : (i : ℕ) → i < 21 → play_of (stored f) i ≡ play_of (stored g) i
       unfolding play_at
       same_play i inside =
@@ -78,7 +71,7 @@ module _ (f g : List ℕ) (small_f : IsBytes f) (small_g : IsBytes g) (file_f : 
           ∙ ap (λ bs. play_of bs i) full_record
           ∙ told_play version (ranked_pips x) (stored g) i few two.long_g inside
 
-      -- .. and the same shares
+      -- it says the same shares
       same_share : (j : ℕ) → j < share_count version (ranked_pips x) →
           share_of (stored f) j ≡ share_of (stored g) j
       unfolding spread_at
@@ -125,7 +118,7 @@ one_way a b small_a small_b e =
 uppers : {a b : Parts} → a ≡ b → a.upper ≡ b.upper
 uppers = ap (λ (parts : Parts). parts.upper)
 
--- .. and the lower ones
+-- the lower parts of two numbers that are alike
 lowers : {a b : Parts} → a ≡ b → a.lower ≡ b.lower
 lowers = ap (λ (parts : Parts). parts.lower)
 
@@ -167,7 +160,7 @@ module _ (f g : List ℕ) (small_f : IsBytes f) (small_g : IsBytes g) (right_f :
           (power_positive (33 - k)) (same.shares x k at low in_33)
           ∙ told_some (ranked_pips x) k theirs some within
 
-      -- .. from 12 throws on in the same parts
+      -- from 12 throws on the counts have the same parts
       counts : 11 < k → count_parts ours k ≡ count_parts theirs k
       counts many =
           one_way (count_parts ours k) (count_parts theirs k)

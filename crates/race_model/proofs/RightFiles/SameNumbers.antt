@@ -1,13 +1,8 @@
 -- A file that holds the numbers of a right file is right, and so is the upgrade of one.
 use Rattle.std.proofs.Common.{◌≡◌, ℕ, ◌≤◌, List, refl, sym, ap, subst, ◌∙◌}
-use Rattle.race_model.specs.Positions.{Board, IsPosition, pips}
-use Rattle.race_model.specs.Plays.{Legal}
-use Rattle.race_model.specs.Ranks.{rank, at_rank}
-use Rattle.race_model.specs.Files.{IsFile, bound_of, book_of}
-use Rattle.race_model.specs.Strategies.{Fits, total, count_of, IsLeast}
-use Rattle.race_model.specs.RightFiles.{follow, IsRightDatabase, IsRightAt}
-use Rattle.race_model.specs.SameNumbers.{HasSameNumbers}
-use Rattle.race_model.specs.Upgrades.{IsUpgrade}
+use Rattle.race_model.specs.Prelude.{Board, IsPosition, pips, Legal, rank, at_rank, IsFile, bound_of, book_of, Fits}
+use Rattle.race_model.specs.Prelude.{total, count_of, IsLeast, follow, IsRightDatabase, IsRightAt, HasSameNumbers}
+use Rattle.race_model.specs.Prelude.{IsUpgrade}
 use Rattle.race_model.proofs.Books.Kinds.{same_follow}
 use Rattle.race_model.proofs.RightFiles.SameBytes.{one_file}
 
@@ -63,7 +58,7 @@ same_of_both f g h one other = record {
   lower : (x : Board) → pips x ≤ bound_of g → pips x ≤ bound_of f
   lower x low = subst (λ b. pips x ≤ b) (sym one.bound) low
 
--- .. and one of them the numbers of the other
+-- where one file holds the numbers of another, so does that one of the first
 pub same_back : (f g : List ℕ) → HasSameNumbers f g → HasSameNumbers g f
 same_back f g same = same_of_both f g f same (same_as_itself f)
 

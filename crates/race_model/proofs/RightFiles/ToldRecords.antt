@@ -4,24 +4,17 @@ use Rattle.std.proofs.Common.{◌≡◌, ℕ, zero, suc, ◌+◌, ◌-◌, ◌*�
 use Rattle.std.proofs.Common.{false, cond, leb, List, ◌++◌, length, take, drop, refl, ap, sym, ◌∙◌}
 use Rattle.std.proofs.Common.{arith, length-take, length-drop, take-take, leb-true, leb-false}
 use Rattle.std.specs.Int.{w16, w128, from_be_bytes, to_be_bytes}
-use Rattle.std.proofs.lemmas.List.{length-append, length-replicate, drop-append-le, take-append-le}
+use Rattle.std.proofs.lemmas.List.{drop-append-le, take-append-le}
 use Rattle.std.proofs.lemmas.List.{drop-drop, drop-take, drop-replicate, take-replicate}
 use Rattle.std.proofs.Math.Seq.{drop-append-add}
-use Rattle.race_model.specs.Horizon.{most_rolls}
-use Rattle.race_model.specs.Versions.{Version, full, compact, first_share, share_count, record_length}
-use Rattle.race_model.specs.Files.{bytes_at, share_before, shares_after, told_record, mean_of, play_of, share_of}
-use Rattle.race_model.specs.LocalEquations.{whole}
-use Rattle.race_model.specs.ToldShares.{told_share}
+use Rattle.race_model.specs.Prelude.{most_rolls, Version, full, compact, first_share, share_count, record_length}
+use Rattle.race_model.specs.Prelude.{bytes_at, share_before, shares_after, told_record, mean_of, play_of, share_of}
+use Rattle.race_model.specs.Prelude.{whole, told_share}
 
 -- the length of the share of 0 rolls
 length-share_before : (p : ℕ) → length (share_before p) ≡ 16
 unfolding share_before
 length-share_before p = refl
-
--- .. and of those beyond the most rolls
-length-shares_after : (p : ℕ) → length (shares_after p) ≡ 16 * (22 - most_rolls p)
-unfolding shares_after
-length-shares_after p = length-replicate (16 * (22 - most_rolls p)) 0
 
 -- bytes in the front of a list that goes on
 bytes_at-front : (xs ys : List ℕ) (place n : ℕ) → place + n ≤ length xs →
@@ -30,7 +23,7 @@ bytes_at-front xs ys place n inside =
     ap (take n) (drop-append-le place xs ys (omega (arith, inside)))
     ∙ take-append-le n (drop place xs) ys (omega (arith, inside, length-drop place xs))
 
--- .. and behind the front
+-- bytes behind the front of a list that goes on
 bytes_at-behind : (xs ys : List ℕ) (place n : ℕ) →
     bytes_at (xs ++ ys) (length xs + place) n ≡ bytes_at ys place n
 bytes_at-behind xs ys place n = ap (take n) (drop-append-add xs ys place)
@@ -42,7 +35,7 @@ module _ (p : ℕ) (stored : List ℕ) (few : most_rolls p ≤ 22)
   length-front : length (take 58 stored) ≡ 58
   length-front = omega (arith, length-take 58 stored, long)
 
-  -- .. and behind them
+  -- the bytes behind the front
   length-behind : length (drop 58 stored) ≡ 16 * most_rolls p
   length-behind = omega (arith, length-drop 58 stored, long)
 
@@ -145,7 +138,7 @@ told_mean full p stored few long = refl
 told_mean compact p stored few long =
     ap (from_be_bytes w128) (front_bytes p stored few long 0 16 (omega arith))
 
--- .. and a play
+-- a play is told by the bytes that store it
 pub told_play : (version : Version) (p : ℕ) (stored : List ℕ) (roll : ℕ) → most_rolls p ≤ 22 →
     length stored ≡ record_length version p → roll < 21 →
     play_of (told_record version p stored) roll ≡ play_of stored roll
@@ -155,7 +148,7 @@ told_play compact p stored roll few long inside =
     ap (from_be_bytes w16)
     (front_bytes p stored few long (16 + 2 * roll) 2 (omega (arith, inside)))
 
--- .. and the shares by those that are stored
+-- the shares are told by those that are stored
 pub told_shares : (version : Version) (p : ℕ) (stored : List ℕ) (k : ℕ) → most_rolls p ≤ 22 →
     length stored ≡ record_length version p → k ≤ 22 →
     share_of (told_record version p stored) k
@@ -192,20 +185,3 @@ told_stored compact p stored j few long inside =
   where
     next : (j : ℕ) → 1 + j ≡ suc j
     next j = omega arith
-
--- the full record has 426 bytes
-pub length-told_record : (version : Version) (p : ℕ) (stored : List ℕ) → most_rolls p ≤ 22 →
-    length stored ≡ record_length version p → length (told_record version p stored) ≡ 426
-length-told_record full p stored few long = long
-length-told_record compact p stored few long =
-    length-append (take 58 stored) (share_before p ++ (drop 58 stored ++ shares_after p))
-    ∙ omega (
-      arith,
-      few,
-      length-front p stored few long,
-      length-behind p stored few long,
-      length-share_before p,
-      length-shares_after p,
-      length-append (share_before p) (drop 58 stored ++ shares_after p),
-      length-append (drop 58 stored) (shares_after p),
-    )

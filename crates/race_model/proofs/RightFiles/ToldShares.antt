@@ -1,14 +1,9 @@
 -- A record of either version tells all shares of a position that is recorded right.
 use Rattle.std.proofs.Common.{◌≡◌, ℕ, zero, suc, ◌≤◌, Bool, true, false, cond, eqb, leb, List}
 use Rattle.std.proofs.Common.{refl, ap, sym, ◌∙◌, arith, eq-eqb, ne_eqb, leb-false}
-use Rattle.race_model.specs.Positions.{Board, IsPosition, IsFinished, checkers, pips}
-use Rattle.race_model.specs.Versions.{Version, full, compact}
-use Rattle.race_model.specs.Files.{spread}
-use Rattle.race_model.specs.LocalEquations.{whole}
-use Rattle.race_model.specs.Strategies.{Strategy, stop, turn, Fits, count_of}
-use Rattle.race_model.specs.RightFiles.{follow, IsRightAt}
-use Rattle.race_model.specs.Horizon.{most_rolls}
-use Rattle.race_model.specs.ToldShares.{told_share}
+use Rattle.race_model.specs.Prelude.{Board, IsPosition, IsFinished, checkers, pips, Version, full, compact, spread}
+use Rattle.race_model.specs.Prelude.{whole, Strategy, stop, turn, Fits, count_of, follow, IsRightAt, most_rolls}
+use Rattle.race_model.specs.Prelude.{told_share}
 use Rattle.race_model.proofs.Strategies.Horizons.{sum-at_most_pips, count_of-beyond}
 use Rattle.race_model.proofs.Strategies.Histories.{count_over-turn_none}
 use Rattle.race_model.proofs.Strategies.Totals.{count_over-stop}

@@ -7,10 +7,8 @@ use Rattle.std.proofs.Common.{subst, ◌∙◌, arith}
 use Rattle.std.proofs.Math.Nat.{pow-suc}
 use Rattle.std.proofs.Math.Dec.{eqb-suc-suc, eqb-suc-zero}
 use mathlib.Core.Path.{fun_ext}
-use Rattle.race_model.specs.Positions.{Board}
-use Rattle.race_model.specs.Dice.{Throw, throws}
-use Rattle.race_model.specs.Strategies.{Strategy, stop, turn, Fits, rolls, sequences, total_over}
-use Rattle.race_model.specs.Strategies.{count_over, IsWithin, EndsIn}
+use Rattle.race_model.specs.Prelude.{Board, Throw, throws, Strategy, stop, turn, Fits, rolls, sequences, total_over}
+use Rattle.race_model.specs.Prelude.{count_over, IsWithin, EndsIn}
 use Rattle.race_model.proofs.Numbers.Sums.{sum_by-map, sum_by-flat_map, sum_by-equal, sum_by-plus}
 use Rattle.race_model.proofs.Numbers.Sums.{sum_by-times, sum_by-constant, sum_by-zero}
 use Rattle.race_model.proofs.Dice.RollSums.{length-throws}
@@ -153,7 +151,7 @@ total_over-more m s within =
     total_over-over (suc m) s ∙ over-more m s (λ k. k) within
     ∙ ap (λ t. 36 * t) (sym (total_over-over m s))
 
--- .. and 36 times as many sequences for each number of rolls
+-- a throw more makes 36 times as many sequences for each number of rolls
 pub count_over-more : (m : ℕ) (s : Strategy) (k : ℕ) → IsWithin m s →
     count_over (suc m) s k ≡ 36 * count_over m s k
 count_over-more m s k within =

@@ -3,11 +3,9 @@
 -- where pips exceed checkers.
 use Rattle.std.proofs.Common.{◌≡◌, ◌≢◌, ◌⊎◌, inl, inr, ⊎_elim, ℕ, zero, suc, ◌+◌, ◌*◌, ◌<◌, ◌≤◌}
 use Rattle.std.proofs.Common.{List, [], ◌∷◌, get_or, sum, refl, ap, sym, subst, ◌∙◌, arith}
-use Rattle.race_model.specs.Positions.{Board, IsPosition, IsFinished, IsHighest, checkers, pips, pips_from}
-use Rattle.race_model.specs.Dice.{Die, number, Throw}
-use Rattle.race_model.specs.Plays.{Step, Run, Legal, in_order, in_reverse, double}
-use Rattle.race_model.specs.Strategies.{Strategy, Fits, IsWithin, EndsIn, count_of}
-use Rattle.race_model.specs.Horizon.{most_rolls}
+use Rattle.race_model.specs.Prelude.{Board, IsPosition, IsFinished, IsHighest, checkers, pips, pips_from, Die, number}
+use Rattle.race_model.specs.Prelude.{Throw, Step, Run, Legal, in_order, in_reverse, double, Strategy, Fits, IsWithin}
+use Rattle.race_model.specs.Prelude.{EndsIn, count_of, most_rolls}
 use Rattle.race_model.proofs.Numbers.Sums.{sum-cons}
 use Rattle.race_model.proofs.Plays.Steps.{Change, moved, borne_off, changed}
 use Rattle.race_model.proofs.Dice.Faces.{number_positive, numbers_apart}
@@ -184,12 +182,12 @@ ends_in_most x at = by (pips x) (checkers x) refl refl (sum-at_most_pips 0 x) at
 pub within_22 : (x : Board) (s : Strategy) → IsPosition x → pips x ≤ 58 → Fits s x → IsWithin 22 s
 within_22 x s at low fits = fits_within 22 x s (ends_in_22 x at low) fits
 
--- .. and at most the most rolls of its pip count
+-- a strategy has at most the most rolls of its pip count as turns on any path
 pub within_most : (x : Board) (s : Strategy) → IsPosition x → Fits s x →
     IsWithin (most_rolls (pips x)) s
 within_most x s at fits = fits_within (most_rolls (pips x)) x s (ends_in_most x at) fits
 
--- .. so it never needs more
+-- a strategy never needs more rolls than the most of its pip count
 pub count_of-beyond : (x : Board) (s : Strategy) (k : ℕ) → IsPosition x → Fits s x →
     most_rolls (pips x) < k → count_of s k ≡ 0
 count_of-beyond x s k at fits beyond =

@@ -3,11 +3,8 @@
 -- there is the least.
 use Rattle.std.proofs.Common.{◌≡◌, ◌⊎◌, inl, inr, ⊎_elim, ℕ, zero, suc, ◌≤◌, List, [], ◌∷◌, refl}
 use Rattle.std.proofs.Common.{sym, subst, arith, le_trans, le_antisymm, le_of_eq, zero-le}
-use Rattle.race_model.specs.Positions.{Board, IsPosition, IsFinished, pips}
-use Rattle.race_model.specs.Dice.{Throw, throws}
-use Rattle.race_model.specs.Plays.{Legal}
-use Rattle.race_model.specs.Strategies.{Strategy, stop, turn, Fits, total_over, IsLeastIn, IsLeast, IsWithin, EndsIn}
-use Rattle.race_model.specs.Enumerations.{all_results}
+use Rattle.race_model.specs.Prelude.{Board, IsPosition, IsFinished, pips, Throw, throws, Legal, Strategy, stop, turn}
+use Rattle.race_model.specs.Prelude.{Fits, total_over, IsLeastIn, IsLeast, IsWithin, EndsIn, all_results}
 use Rattle.race_model.proofs.Numbers.Sums.{sum_by-at_most}
 use Rattle.race_model.proofs.Plays.Results.{finished_or_not, legal_somewhere}
 use Rattle.race_model.proofs.Strategies.Histories.{fits_within, within_up}
@@ -165,6 +162,6 @@ least_within m (suc n) x le ends = ⊎_elim
 pub least_exists : (x : Board) → IsPosition x → pips x ≤ 58 → (t : ℕ) × IsLeast x t
 least_exists x at low = least_within 21 22 x (omega arith) (ends_in_22 x at low)
 
--- .. and each position over 33
+-- each position has a least total over 33 throws
 pub least_exists_33 : (x : Board) → IsPosition x → (t : ℕ) × IsLeastIn 33 x t
 least_exists_33 x at = least_within 32 33 x (omega arith) (ends_in_33 x at)

@@ -2,12 +2,8 @@
 -- sequences, and from there over those of 22 throws.
 use Rattle.std.proofs.Common.{Bool, true, false, cond, leb, ◌≡◌, ℕ, zero, suc, ◌*◌, ◌^◌, refl, ap, ◌∙◌, arith}
 use Rattle.std.proofs.Math.Nat.{pow-suc}
-use Rattle.race_model.specs.Dice.{Throw, throws}
-use Rattle.race_model.specs.Positions.{finished}
-use Rattle.race_model.specs.LocalEquations.{whole}
-use Rattle.race_model.specs.Strategies.{Strategy, stop, turn, sequences, total_over, count_over}
-use Rattle.race_model.specs.Strategies.{total, count_of, IsWithin}
-use Rattle.race_model.specs.Samples.{worth, from_six_point}
+use Rattle.race_model.specs.Prelude.{Throw, throws, finished, whole, Strategy, stop, turn, sequences, total_over}
+use Rattle.race_model.specs.Prelude.{count_over, total, count_of, IsWithin, worth, from_six_point}
 use Rattle.race_model.proofs.Strategies.Histories.{total_over-more, count_over-more, within_more}
 
 -- over two throws the mean is 5/4: 1,620 rolls in 1,296 sequences
@@ -49,7 +45,7 @@ module _ (s : Strategy) (within : IsWithin 2 s) where
       total_over-more (after_two k) s (still_within k) ∙ ap (λ t. 36 * t) (total_over-after_two k)
       ∙ one_more k (total_over 2 s)
 
-  -- .. and its counts
+  -- its counts over more throws
   count_over-after_two : (k n : ℕ) → count_over (after_two k) s n ≡ 36 ^ k * count_over 2 s n
   count_over-after_two zero n = omega arith
   count_over-after_two (suc k) n =
@@ -76,7 +72,7 @@ unfolding whole
 sample_share_of_one =
     omega (arith, count_over-after_two from_six_point sample_within 20 1, sample_one)
 
--- .. and that of two rolls is 1/4
+-- its chance of two rolls is 1/4
 pub sample_share_of_two : 4 * count_of from_six_point 2 ≡ whole
 unfolding whole
 sample_share_of_two =

@@ -4,12 +4,10 @@
 use Rattle.std.proofs.Common.{◌≡◌, ◌⊎◌, ⊎_elim, ℕ, ◌+◌, ◌*◌, ◌≤◌, Bool, true, false, cond, leb}
 use Rattle.std.proofs.Common.{List, [], ◌∷◌, sum_by, refl, ap, arith, eq-eqb, ne_eqb, leb-false}
 use Rattle.std.proofs.Common.{zero-le, lit≤}
-use Rattle.race_model.specs.Positions.{Board, IsPosition, IsFinished, IsHighest, count, pips}
-use Rattle.race_model.specs.Dice.{Die, number, Throw, throws}
-use Rattle.race_model.specs.Plays.{Step, Run, Legal, in_order, in_reverse, double}
-use Rattle.race_model.specs.LocalEquations.{whole}
-use Rattle.race_model.specs.Strategies.{Strategy, stop, turn, Fits, total, IsLeast, IsWithin}
-use Rattle.race_model.specs.Samples.{worth, from_six_point}
+use Rattle.race_model.specs.Prelude.{Board, IsPosition, IsFinished, IsHighest, pips, Die, number, Throw, throws, Step}
+use Rattle.race_model.specs.Prelude.{Run, Legal, in_order, in_reverse, double, whole, Strategy, stop, turn, Fits, total}
+use Rattle.race_model.specs.Prelude.{IsLeast, IsWithin, worth, from_six_point}
+use Rattle.race_model.specs.Positions.{count}
 use Rattle.race_model.proofs.Plays.Steps.{Change, moved, borne_off, changed}
 use Rattle.race_model.proofs.Numbers.Sums.{sum_by-at_most}
 use Rattle.race_model.proofs.Dice.Faces.{numbers_apart}

@@ -5,9 +5,8 @@ use Rattle.std.proofs.Common.{[], ◌∷◌, sum_by, cond, refl, ap, sym, ◌∙
 use Rattle.std.proofs.Common.{mul_comm}
 use Rattle.std.specs.List.{range_with_len}
 use Rattle.std.proofs.lemmas.List.Sums.{sum_by-cons}
-use Rattle.race_model.specs.Dice.{Throw}
-use Rattle.race_model.specs.LocalEquations.{whole}
-use Rattle.race_model.specs.Strategies.{Strategy, rolls, sequences, total_over, count_over, total, count_of, IsWithin}
+use Rattle.race_model.specs.Prelude.{Throw, whole, Strategy, rolls, sequences, total_over, count_over, total, count_of}
+use Rattle.race_model.specs.Prelude.{IsWithin}
 use Rattle.race_model.proofs.Numbers.Sums.{sum_by-equal, sum_by-plus, sum_by-zero, sum_by-times}
 use Rattle.race_model.proofs.Strategies.Histories.{sequence_count, one_at, rolls-within}
 
@@ -106,7 +105,7 @@ pub counts_add_up : (s : Strategy) → IsWithin 22 s →
 unfolding whole
 counts_add_up s within = counts_add_up_over 22 22 s within
 
--- .. and weighed
+-- the counts of a strategy of at most 22 turns, each times its number of rolls
 pub counts_weigh : (s : Strategy) → IsWithin 22 s →
     sum_by (λ k. count_of s k * k) (range_with_len 0 23) ≡ total s
 counts_weigh s within = counts_weigh_over 22 22 s within

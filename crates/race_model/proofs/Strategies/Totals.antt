@@ -2,9 +2,7 @@
 -- turn adds before strategies that are over a throw sooner.
 use Rattle.std.proofs.Common.{◌≡◌, ℕ, suc, ◌+◌, ◌*◌, ◌^◌, sum_by, cond, ap, ◌∙◌, arith}
 use Rattle.std.proofs.Math.Dec.{eqb-zero-suc}
-use Rattle.race_model.specs.Positions.{Board}
-use Rattle.race_model.specs.Dice.{Throw, throws}
-use Rattle.race_model.specs.Strategies.{Strategy, stop, turn, total_over, count_over, IsWithin}
+use Rattle.race_model.specs.Prelude.{Board, Throw, throws, Strategy, stop, turn, total_over, count_over, IsWithin}
 use Rattle.race_model.proofs.Numbers.Sums.{sum_by-equal, sum_by-times}
 use Rattle.race_model.proofs.Strategies.Histories.{over-stop, total_over-over, count_over-over}
 use Rattle.race_model.proofs.Strategies.Histories.{one_at, total_over-turn, count_over-turn}
@@ -23,7 +21,7 @@ total_over-turn_times_36 m to next within =
     let out = sum_by-times 36 (λ v. total_over m (next v)) throws in
     omega (arith, first, scaled, out)
 
--- .. and its counts
+-- the counts of a turn before strategies of at most m turns, over one throw more
 pub count_over-turn_times_36 : (m : ℕ) (to : Throw → Board) (next : Throw → Strategy) (k : ℕ) →
     ((v : Throw) → IsWithin m (next v)) →
     36 * count_over (suc m) (turn to next) (suc k)
@@ -40,11 +38,11 @@ count_over-turn_times_36 m to next k within =
 pub total_over-stop : (m : ℕ) → total_over m stop ≡ 0
 total_over-stop m = total_over-over m stop ∙ over-stop m (λ k. k) ∙ omega arith
 
--- .. in each sequence
+-- a strategy that stops needs no roll in each sequence
 pub count_over-stop : (m : ℕ) → count_over m stop 0 ≡ 36 ^ m
 count_over-stop m = count_over-over m stop 0 ∙ over-stop m (one_at 0) ∙ omega arith
 
--- .. and never a roll
+-- a strategy that stops never needs a roll
 pub count_over-stop_more : (m k : ℕ) → count_over m stop (suc k) ≡ 0
 count_over-stop_more m k =
     count_over-over m stop (suc k) ∙ over-stop m (one_at (suc k))

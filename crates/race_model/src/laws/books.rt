@@ -1,21 +1,13 @@
 //! Laws of books: what holds of a database whatever its bytes, and whatever its number of throws;
 //! what a play costs; and what a check of the whole home board establishes.
 ghost use Rattle.std.specs.Prelude.{◌≡◌, ℕ, suc, ◌+◌, ◌*◌, ◌^◌, ◌≤◌, ◌↔◌, List, sum_by, ◌-◌};
-ghost use Rattle.race_model.specs.Positions.{Board, IsPosition, pips, IsFinished};
-ghost use Rattle.race_model.specs.Dice.{Throw, throws};
-ghost use Rattle.race_model.specs.Ranks.{rank, numbers_from};
-ghost use Rattle.race_model.specs.Horizon.{most_rolls};
-ghost use Rattle.race_model.specs.LocalEquations.{IsLocalAt, IsLocalIn, IsLocalBook, IsLong, HasShareIn};
-ghost use Rattle.race_model.specs.Strategies.{Strategy, turn, IsWithin, EndsIn, count_over, Fits, total_over};
-ghost use Rattle.race_model.specs.Strategies.{IsLeastIn};
-ghost use Rattle.race_model.specs.Books.{Book, IsRightBook, follow_in, mean_in, play_in};
-ghost use Rattle.race_model.specs.Endings.{endings, IsCounted, HasCountIn};
-ghost use Rattle.race_model.specs.Files.{IsFile, book_of, bound_of};
-ghost use Rattle.race_model.specs.Plays.{Legal};
-ghost use Rattle.race_model.specs.Losses.{loss_in, IsLossIn, BeginsWith};
-ghost use Rattle.race_model.specs.BoardFiles.{board_book, count_at, count_place, count_width, board_length};
-ghost use Rattle.race_model.specs.RightFiles.{IsRightBoard};
-ghost use Rattle.race_model.specs.BoardEquations.{IsLocalBoard};
+ghost use Rattle.race_model.specs.Prelude.{Board, IsPosition, pips, IsFinished, Throw, throws, rank, numbers_from};
+ghost use Rattle.race_model.specs.Prelude.{most_rolls, IsLocalAt, IsLocalIn, IsLocalBook, IsLong, HasShareIn, Strategy};
+ghost use Rattle.race_model.specs.Prelude.{turn, IsWithin, EndsIn, count_over, Fits, total_over, IsLeastIn, Book};
+ghost use Rattle.race_model.specs.Prelude.{IsRightBook, follow_in, mean_in, play_in, further_by, endings, IsCounted};
+ghost use Rattle.race_model.specs.Prelude.{HasCountIn, IsFile, book_of, bound_of, Legal, loss_in, IsLossIn, BeginsWith};
+ghost use Rattle.race_model.specs.Prelude.{board_book, count_at, count_place, count_width, board_length, IsRightBoard};
+ghost use Rattle.race_model.specs.Prelude.{IsLocalBoard};
 
 /// The theorem for any number of throws: the local equations hold of a book exactly where it is
 /// right, if each game from a position of at most its bound is over within its sequences. So it is
@@ -30,6 +22,17 @@ pub fn law_books()
     ensures file { (f : List ℕ) → IsFile f → IsLong (book_of f) }
     ensures board { (f : Book) → f.further ≡ 32 → IsLong f }
     ensures file_local { (f : List ℕ) (x : Board) → IsLocalIn (book_of f) x ↔ IsLocalAt f x }
+{}
+
+/// A right book is right over any number of throws more, with the same plays and each number once
+/// for each sequence of these throws: the games that it plays are over within its own throws, and
+/// those of any other strategy count no fewer rolls over more throws. (That its own throws are
+/// enough for each game, as `IsLong` says, is not needed; where they are, so are the more.) So the
+/// book of a right database, over 22 throws, is a right book over 33, as many as a board file has.
+pub fn law_further()
+    ensures right { (f : Book) (d : ℕ) → IsRightBook f → IsRightBook (further_by d f) }
+    ensures long { (f : Book) (d : ℕ) → IsLong f → IsLong (further_by d f) }
+    ensures file { (f : List ℕ) → (further_by 11 (book_of f)).further ≡ (board_book f).further }
 {}
 
 /// Counts of sequences in place of shares. Where a strategy has at most as many turns as a

@@ -1,11 +1,8 @@
 //! Laws of faults: what a first fault means, and what the questions about a header mean.
 ghost use Rattle.std.specs.Prelude.{◌≡◌, ℕ, ◌⊎◌, List, length, take};
-ghost use Rattle.race_model.specs.Files.{IsBytes, IsFile};
-ghost use Rattle.race_model.specs.Headers.{HeaderTest, IsHeader, IsFirstHeaderFault, IsBoardHeader};
-ghost use Rattle.race_model.specs.LocalEquations.{IsLocalDatabase};
-ghost use Rattle.race_model.specs.BoardFiles.{IsBoardFile};
-ghost use Rattle.race_model.specs.BoardEquations.{HoldsOnBoard, AsksOnBoard, IsFirstBoardFault, IsLocalBoard};
-ghost use Rattle.race_model.specs.FirstFault.{Test, Holds, Asks, IsFirstFault};
+ghost use Rattle.race_model.specs.Prelude.{IsBytes, IsFile, HeaderTest, IsHeader, IsFirstHeaderFault, IsBoardHeader};
+ghost use Rattle.race_model.specs.Prelude.{IsLocalDatabase, IsBoardFile, HoldsOnBoard, AsksOnBoard, IsFirstBoardFault};
+ghost use Rattle.race_model.specs.Prelude.{IsLocalBoard, Test, Holds, Asks, IsFirstFault};
 
 /// What a first fault means. The questions about a file are the local equations of its positions:
 /// in a locally right file each that is asked is answered yes, and a file of which each is

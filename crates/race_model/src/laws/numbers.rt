@@ -1,11 +1,8 @@
 //! Laws of numbers: how large recorded ones can be, and that lowest terms and thousandths leave no
 //! choice.
 ghost use Rattle.std.specs.Prelude.{ℕ, ◌*◌, ◌≤◌, List, ◌≡◌, ◌<◌};
-ghost use Rattle.race_model.specs.Positions.{Board, IsPosition, pips};
-ghost use Rattle.race_model.specs.Ranks.{rank};
-ghost use Rattle.race_model.specs.Files.{mean, spread};
-ghost use Rattle.race_model.specs.LocalEquations.{whole, HasLeastMean, IsLocalAt};
-ghost use Rattle.race_model.specs.Fractions.{IsFraction, IsThousandths};
+ghost use Rattle.race_model.specs.Prelude.{Board, IsPosition, pips, rank, mean, spread, whole, HasLeastMean, IsLocalAt};
+ghost use Rattle.race_model.specs.Prelude.{IsFraction, IsThousandths};
 
 /// How large recorded numbers can be where the equations hold for all positions up to a rank: a
 /// mean is at most 22 rolls from at most 58 pips, and a share is at most the whole. (This

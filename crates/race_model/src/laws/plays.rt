@@ -1,12 +1,9 @@
 //! Laws of dice and plays: the 21 rolls, steps, throws and results, and the rule as rule books have
 //! it.
 ghost use Rattle.std.specs.Prelude.{◌≡◌, ℕ, ◌<◌, ◌≤◌, ◌↔◌, List, [], ◌∷◌, Contains, ◌⊎◌};
-ghost use Rattle.race_model.specs.Positions.{Board, IsPosition, IsFinished, finished, pips};
-ghost use Rattle.race_model.specs.Dice.{Die, one, four, six, Throw, reversed, IsRoll, roll_at, roll_index};
-ghost use Rattle.race_model.specs.Plays.{Step, Legal};
-ghost use Rattle.race_model.specs.Enumerations.{all_results};
-ghost use Rattle.race_model.specs.MostDice.{MostDice};
-ghost use Rattle.race_model.specs.LocalEquations.{IsPlayed, IsBest};
+ghost use Rattle.race_model.specs.Prelude.{Board, IsPosition, IsFinished, finished, pips, Die, one, four, six, Throw};
+ghost use Rattle.race_model.specs.Prelude.{reversed, IsRoll, roll_at, roll_index, Step, Legal, all_results, MostDice};
+ghost use Rattle.race_model.specs.Prelude.{IsPlayed, IsBest};
 
 /// An unfinished position has a step for every die (the bearing-off rules of backgammon).
 #[tactic(auto, using(crate::proofs::WhyLaws::law_playable))]

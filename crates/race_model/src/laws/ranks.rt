@@ -1,11 +1,11 @@
 //! Laws of ranks: the order of all positions, and how many there are.
 ghost use Rattle.std.specs.Prelude.{◌≡◌, ℕ, ◌+◌, ◌<◌, ◌≤◌, ◌↔◌};
-ghost use Rattle.race_model.specs.Positions.{Board, IsPosition, pips, finished};
-ghost use Rattle.race_model.specs.Ranks.{rank, at_rank, count_to, first_of, position_count};
+ghost use Rattle.race_model.specs.Prelude.{Board, IsPosition, pips, finished, rank, at_rank, count_to, first_of};
+ghost use Rattle.race_model.specs.Prelude.{position_count};
 
 /// The ranks of positions: each position is found by its rank and by no other, ranks rise with the
 /// pips, so the positions of at most a number of pips have the ranks below their count, and the
-/// finished position is the first of 54,264. (This project's profile.)
+/// finished position is the first of 54,264.
 #[tactic(auto, using(crate::proofs::WhyLaws::law_rank))]
 pub fn law_rank()
     ensures found { (x : Board) → IsPosition x → at_rank (rank x) ≡ x }
@@ -20,7 +20,6 @@ pub fn law_rank()
 
 /// The positions of ranks: a number below 54,264 is the rank of one position, of at most so many
 /// pips where it is below their count, and any other number stands for the finished position.
-/// (This project's profile.)
 pub fn law_at_rank()
     ensures position { (r : ℕ) → IsPosition (at_rank r) }
     ensures reached { (r : ℕ) → r < 54264 → rank (at_rank r) ≡ r }
@@ -30,7 +29,7 @@ pub fn law_at_rank()
 {}
 
 /// How many positions there are: 54,264 in all, and so many of at most 8, 44 and 58 pips. The
-/// counts rise with the pips, up to 90 pips, the most of any position. (This project's profile.)
+/// counts rise with the pips, up to 90 pips, the most of any position.
 pub fn law_counts()
     ensures all { position_count ≡ 54264 }
     ensures to_8 { count_to 8 ≡ 64 }

@@ -1,14 +1,9 @@
 //! Laws of lines and replies: how bytes fall into lines, and that each line has one reply, whatever
 //! right file answers it.
 ghost use Rattle.std.specs.Prelude.{◌≡◌, ℕ, ◌≤◌, ◌↔◌, List, length, ◌≢◌, [], ◌∷◌, ◌++◌};
-ghost use Rattle.race_model.specs.RightFiles.{IsRightDatabase, IsRightBoard};
-ghost use Rattle.race_model.specs.SameNumbers.{HasSamePlays, HasSameNumbers};
-ghost use Rattle.race_model.specs.Queries.{Query, IsQuery, HasWords, IsWithinAlike};
-ghost use Rattle.race_model.specs.Replies.{IsReply, IsReplyIn};
-ghost use Rattle.race_model.specs.Files.{bound_of, book_of};
-ghost use Rattle.race_model.specs.Books.{Book};
-ghost use Rattle.race_model.specs.BoardFiles.{board_book};
-ghost use Rattle.race_model.specs.InputLines.{pieces, rest_of, IsCut};
+ghost use Rattle.race_model.specs.Prelude.{IsRightDatabase, IsRightBoard, HasSamePlays, HasSameNumbers, Query, IsQuery};
+ghost use Rattle.race_model.specs.Prelude.{HasWords, IsWithinAlike, IsReply, IsReplyIn, bound_of, book_of, Book};
+ghost use Rattle.race_model.specs.Prelude.{further_by, board_book, pieces, rest_of, IsCut};
 
 /// A line has one reply, by a file and by any book: the definition leaves no choice. Two right
 /// files that hold the same bound, means, plays and shares give the same reply to each line,
@@ -28,6 +23,8 @@ pub fn law_replies()
         IsWithinAlike (bound_of f) (bound_of g) line →
         IsReply f line text ↔ IsReplyIn (board_book g) line text }
     ensures book { (f line text : List ℕ) → IsReplyIn (book_of f) line text ↔ IsReply f line text }
+    ensures further { (f line text : List ℕ) → IsRightDatabase f →
+        IsReplyIn (further_by 11 (book_of f)) line text ↔ IsReply f line text }
 {}
 
 /// What a line asks is told by its words, the parts between spaces, and a line

@@ -1,21 +1,12 @@
 //! Laws of files, the headline's among them: locally right is right, and nothing else is.
 ghost use Rattle.std.specs.Prelude.{◌≡◌, ℕ, suc, ◌+◌, ◌*◌, ◌<◌, ◌≤◌, ◌⊎◌, List, sum_by, ◌↔◌};
 ghost use Rattle.std.specs.List.{range_with_len};
-ghost use Rattle.race_model.specs.Positions.{Board, IsPosition, IsFinished, pips};
-ghost use Rattle.race_model.specs.Dice.{Throw};
-ghost use Rattle.race_model.specs.Ranks.{rank, count_to};
-ghost use Rattle.race_model.specs.Versions.{Version};
-ghost use Rattle.race_model.specs.Files.{IsBytes, IsFile, version_of, bound_of, mean, play, spread};
-ghost use Rattle.race_model.specs.LocalEquations.{whole, recorded, IsPlayed, IsLong, IsLocalDatabase, IsLocalAt};
-ghost use Rattle.race_model.specs.Strategies.{Strategy, Fits, total, count_of};
-ghost use Rattle.race_model.specs.RightFiles.{IsRight, IsRightDatabase, IsRightBoard, IsRightAt};
-ghost use Rattle.race_model.specs.BuiltFile.{IsBuilt};
-ghost use Rattle.race_model.specs.SameNumbers.{HasSameNumbers};
-ghost use Rattle.race_model.specs.ToldShares.{told_share};
-ghost use Rattle.race_model.specs.Horizon.{most_rolls};
-ghost use Rattle.race_model.specs.Books.{Book, mean_in, share_in, whole_in, IsRightBook};
-ghost use Rattle.race_model.specs.Replies.{IsReply};
-ghost use Rattle.race_model.specs.Upgrades.{IsUpgrade};
+ghost use Rattle.race_model.specs.Prelude.{Board, IsPosition, IsFinished, pips, Throw, rank, count_to, Version};
+ghost use Rattle.race_model.specs.Prelude.{IsBytes, IsFile, version_of, bound_of, mean, play, spread, whole, recorded};
+ghost use Rattle.race_model.specs.Prelude.{IsPlayed, IsLong, IsLocalDatabase, IsLocalAt, Strategy, Fits, total};
+ghost use Rattle.race_model.specs.Prelude.{count_of, IsRight, IsRightDatabase, IsRightBoard, IsRightAt, IsBuilt};
+ghost use Rattle.race_model.specs.Prelude.{HasSameNumbers, told_share, most_rolls, Book, mean_in, share_in, whole_in};
+ghost use Rattle.race_model.specs.Prelude.{IsRightBook, IsReply, IsUpgrade};
 
 /// The local equations, which test each record against records of lower rank alone, hold of a list
 /// of bytes exactly where it is a right file: its means are the least over all strategies, also

@@ -1,12 +1,8 @@
 //! Laws of strategies: turns, horizons, and least totals.
 ghost use Rattle.std.specs.Prelude.{◌≡◌, ℕ, zero, suc, ◌+◌, ◌*◌, ◌^◌, ◌<◌, ◌≤◌, sum_by};
-ghost use Rattle.race_model.specs.Positions.{Board, IsPosition, pips, more, finished};
-ghost use Rattle.race_model.specs.Dice.{Throw, throws};
-ghost use Rattle.race_model.specs.Horizon.{most_rolls};
-ghost use Rattle.race_model.specs.LocalEquations.{whole};
-ghost use Rattle.race_model.specs.Samples.{from_six_point};
-ghost use Rattle.race_model.specs.Strategies.{Strategy, turn, Fits, total_over, count_over, total};
-ghost use Rattle.race_model.specs.Strategies.{count_of, IsLeastIn, IsLeast, IsWithin, EndsIn};
+ghost use Rattle.race_model.specs.Prelude.{Board, IsPosition, pips, more, finished, Throw, throws, most_rolls, whole};
+ghost use Rattle.race_model.specs.Prelude.{from_six_point, Strategy, turn, Fits, total_over, count_over, total};
+ghost use Rattle.race_model.specs.Prelude.{count_of, IsLeastIn, IsLeast, IsWithin, EndsIn};
 
 /// What a turn adds, for every m. Its rolls over all sequences of m + 1 throws are one for each of
 /// these 36 ^ (m + 1) sequences and those of its branches over all sequences of m throws; and it

@@ -1,8 +1,7 @@
 use Rattle.std.proofs.Common.{arith, ◌≡◌, ◌-◌, ◌<◌, ◌++◌, length, take, drop, ap, refl, sym, ◌∙◌, eqb-true}
 use Rattle.std.proofs.lemmas.List.{append-nil}
 use Rattle.std.proofs.lemmas.Bool.{eqb-false}
-use Rattle.race_model.specs.Positions.{checkers}
-use Rattle.race_model.specs.Dice.{number}
+use Rattle.race_model.specs.Prelude.{checkers, number}
 use Rattle.plain_model.proofs.RunLemmas.{all_runs-none, all_runs-finished, all_runs-on}
 use Rattle.plain_model.proofs.RunLemmas.{from_points-none, one_more_point, from_points, from_one}
 use Rattle.plain_model.proofs.RunLemmas.{from_nowhere}

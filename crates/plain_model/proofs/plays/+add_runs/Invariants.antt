@@ -1,5 +1,5 @@
 use Rattle.std.proofs.Common.{◌≡◌, ◌-◌, ◌++◌, length}
-use Rattle.race_model.specs.Dice.{number}
+use Rattle.race_model.specs.Prelude.{number}
 use Rattle.plain_model.proofs.RunLemmas.{from_points}
 use Rattle.plain_model.proofs.plays.+add_runs.Given as goal
 

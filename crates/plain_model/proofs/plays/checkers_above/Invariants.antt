@@ -1,5 +1,4 @@
-use Rattle.std.proofs.Common.{◌≡◌, ◌+◌, drop}
-use Rattle.std.specs.Prelude.{sum}
+use Rattle.std.proofs.Common.{◌≡◌, ◌+◌, drop, sum}
 use Rattle.plain_model.proofs.plays.checkers_above.Given as goal
 
 -- the points passed have been counted

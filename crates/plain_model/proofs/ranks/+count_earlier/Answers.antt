@@ -1,6 +1,5 @@
-use Rattle.std.proofs.Common.{arith, rules, ◌≡◌, ◌-◌, ◌*◌, ◌^◌, ◌<◌, [], ◌∷◌, ◌++◌, length, take, ap, ◌∙◌}
-use Rattle.std.specs.Prelude.{sum_by}
-use Rattle.race_model.specs.Ranks.{numbers_from}
+use Rattle.std.proofs.Common.{arith, rules, ◌≡◌, ◌-◌, ◌*◌, ◌^◌, ◌<◌, [], ◌∷◌, ◌++◌, length, take, ap, ◌∙◌, sum_by}
+use Rattle.race_model.specs.Prelude.{numbers_from}
 use Rattle.plain_model.specs.Counting.{positions_before}
 use Rattle.plain_model.proofs.CountLemmas.{positions_before-given, before_tried, before_untried}
 use Rattle.plain_model.proofs.CountLemmas.{before_next, take-first_set, pow-step, pow-limit}

@@ -1,6 +1,5 @@
-use Rattle.std.proofs.Common.{◌≡◌, ◌-◌, ◌*◌, ◌^◌, ◌≤◌, [], ◌∷◌, ◌++◌, take}
-use Rattle.std.specs.Prelude.{sum_by}
-use Rattle.race_model.specs.Ranks.{numbers_from}
+use Rattle.std.proofs.Common.{◌≡◌, ◌-◌, ◌*◌, ◌^◌, ◌≤◌, [], ◌∷◌, ◌++◌, take, sum_by}
+use Rattle.race_model.specs.Prelude.{numbers_from}
 use Rattle.plain_model.specs.Counting.{positions_before}
 use Rattle.plain_model.proofs.ranks.+count_earlier.Given as goal
 

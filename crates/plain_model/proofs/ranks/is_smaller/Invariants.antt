@@ -1,5 +1,5 @@
 use Rattle.std.proofs.Common.{◌≡◌, drop}
-use Rattle.race_model.specs.Ranks.{comes_first}
+use Rattle.race_model.specs.Prelude.{comes_first}
 use Rattle.plain_model.proofs.ranks.is_smaller.Given as goal
 
 -- the counts passed are the same

@@ -1,5 +1,4 @@
-use Rattle.std.proofs.Common.{◌≡◌, ◌+◌, ◌*◌}
-use Rattle.std.specs.Prelude.{◌==◌, if◌then◌else◌}
+use Rattle.std.proofs.Common.{◌≡◌, ◌+◌, ◌*◌, ◌==◌, if◌then◌else◌}
 use Rattle.plain_model.specs.TwoTurns.{rolls_of_two}
 use Rattle.plain_model.proofs.totals.second_throws_with.Given as goal
 
@@ -8,7 +7,7 @@ abbrev pub invariant-loop-one : goal.invariant-loop-one
 invariant-loop-one l =
     l.count ≡ (if rolls_of_two l.start l.after == l.rolls then 6 * l._one else 0)
 
--- .. and so many more with this first die
+-- so many more throws with this first die are counted, or none
 abbrev pub invariant-loop-other : goal.invariant-loop-other
 invariant-loop-other l =
     l.count ≡ (if rolls_of_two l.start l.after == l.rolls then 6 * l._one + l._other else 0)

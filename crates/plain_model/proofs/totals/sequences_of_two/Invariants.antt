@@ -7,6 +7,6 @@ use Rattle.plain_model.proofs.totals.sequences_of_two.Given as goal
 abbrev pub invariant-loop-one : goal.invariant-loop-one
 invariant-loop-one l = l.count ≡ added_to (one_at l.rolls) l.start l.plays (6 * l.one)
 
--- .. and those with this first die
+-- the throws with this first die passed
 abbrev pub invariant-loop-other : goal.invariant-loop-other
 invariant-loop-other l = l.count ≡ added_to (one_at l.rolls) l.start l.plays (6 * l.one + l.other)

@@ -6,6 +6,6 @@ use Rattle.plain_model.proofs.totals.total_over_two.Given as goal
 abbrev pub invariant-loop-first : goal.invariant-loop-first
 invariant-loop-first l = l.total ≡ added_to (λ k. k) l.start l.plays (6 * l.first)
 
--- .. and those with this first die
+-- the throws with this first die passed
 abbrev pub invariant-loop-second : goal.invariant-loop-second
 invariant-loop-second l = l.total ≡ added_to (λ k. k) l.start l.plays (6 * l.first + l.second)

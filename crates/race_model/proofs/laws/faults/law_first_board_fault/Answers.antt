@@ -1,6 +1,5 @@
 -- As of a database, and each number is written as is allowed or not.
-use Rattle.race_model.specs.BoardFiles.{board_book}
-use Rattle.race_model.specs.BoardEquations.{HoldsOnBoard}
+use Rattle.race_model.specs.Prelude.{board_book, HoldsOnBoard}
 use Rattle.race_model.proofs.FirstFaults.Questions.{board_answers, board_of_answers, board_fault_refuses, one_fault}
 use Rattle.race_model.proofs.FirstFaults.Decisions.{board_or_fault}
 use Rattle.race_model.proofs.laws.faults.law_first_board_fault.Goals as goal

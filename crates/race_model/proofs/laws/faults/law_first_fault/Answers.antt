@@ -1,7 +1,5 @@
 -- The questions are the equations, one for each, and each is answered yes or no.
-use Rattle.race_model.specs.Files.{book_of}
-use Rattle.race_model.specs.LocalEquations.{whole}
-use Rattle.race_model.specs.FirstFault.{Holds}
+use Rattle.race_model.specs.Prelude.{book_of, whole, Holds}
 use Rattle.race_model.proofs.FirstFaults.Questions.{answers_in, local_of_answers, fault_refuses, one_fault}
 use Rattle.race_model.proofs.FirstFaults.Decisions.{local_or_fault}
 use Rattle.race_model.proofs.laws.faults.law_first_fault.Goals as goal

@@ -1,7 +1,6 @@
 -- By induction on the turns that a game can take;
 -- each share is at most the weighted mean of shares.
-use Rattle.race_model.specs.Files.{book_of}
-use Rattle.race_model.specs.LocalEquations.{whole}
+use Rattle.race_model.specs.Prelude.{book_of, whole}
 use Rattle.race_model.proofs.Strategies.Horizons.{ends_in_22}
 use Rattle.race_model.proofs.RightFiles.Bounded.{mean_at_most}
 use Rattle.race_model.proofs.Books.Bounded.{share-in_whole}

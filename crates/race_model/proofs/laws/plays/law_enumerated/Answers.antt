@@ -1,6 +1,6 @@
 -- The search goes through the points, and the rows are computed.
 use Rattle.std.proofs.Common.{refl}
-use Rattle.race_model.specs.Enumerations.{all_results}
+use Rattle.race_model.specs.Prelude.{all_results}
 use Rattle.race_model.proofs.Plays.Enumerated.{results_listed, listed_results, in_of_contains, contains_of_in}
 use Rattle.race_model.proofs.laws.plays.law_enumerated.Goals as goal
 

@@ -1,6 +1,6 @@
 -- By the runs of the throw, a die at a time.
 use Rattle.std.proofs.Common.{subst, sym}
-use Rattle.race_model.specs.Plays.{Legal}
+use Rattle.race_model.specs.Prelude.{Legal}
 use Rattle.race_model.proofs.Plays.Results.{legal_somewhere, legal_position, legal_pips}
 use Rattle.race_model.proofs.Plays.Results.{legal_fewer_pips, legal_finished, legal_stays}
 use Rattle.race_model.proofs.Plays.Results.{only_finished}
