@@ -1,7 +1,8 @@
 -- How the counts of a position's points hang together.
 use Rattle.std.proofs.Common.{◌≡◌, ℕ, ◌+◌, ◌<◌, ◌≤◌, List, [], ◌∷◌, length, map, min, get_or}
 use Rattle.std.proofs.Common.{arith, refl, ap, ◌∙◌}
-use Rattle.race_model.specs.Positions.{count, checkers}
+use Rattle.race_model.specs.Prelude.{checkers}
+use Rattle.race_model.specs.Positions.{count}
 use Rattle.race_model.proofs.Numbers.Sums.{sum-cons}
 
 -- the checkers are those of the six points
@@ -48,13 +49,13 @@ listed_six (a ∷ b ∷ c ∷ d ∷ e ∷ f ∷ g ∷ xs) h = absurd (omega arit
 abbrev pub capped : List ℕ → List ℕ
 capped counts = map (λ count. min count 255) counts
 
--- .. are no more checkers
+-- counts of which those over 255 are 255 are no more checkers
 checkers-capped : (counts : List ℕ) → checkers (capped counts) ≤ checkers counts
 checkers-capped [] = omega arith
 checkers-capped (c ∷ cs) =
     omega (arith, sum-cons (min c 255) (capped cs), sum-cons c cs, checkers-capped cs)
 
--- .. and where they are at most 15, they are the counts themselves
+-- counts of at most 15 checkers after that are the counts themselves
 capped_few : (counts : List ℕ) → checkers (capped counts) ≤ 15 → capped counts ≡ counts
 capped_few [] few = refl
 capped_few (c ∷ cs) few =
@@ -66,6 +67,6 @@ capped_few (c ∷ cs) few =
 pub kept_few : (told kept : List ℕ) → kept ≡ capped told → checkers kept ≤ 15 → kept ≡ told
 kept_few told kept is few = is ∙ capped_few told (rw (← is) few)
 
--- .. and else they are more
+-- where more than 15 checkers are kept of some counts, these are more
 pub kept_many : (told kept : List ℕ) → kept ≡ capped told → 15 < checkers kept → 15 < checkers told
 kept_many told kept is many = omega (arith, many, ap checkers is, checkers-capped told)

@@ -2,7 +2,7 @@
 use Rattle.std.proofs.Common.{◌≡◌, ℕ, zero, suc, ◌+◌, ◌<◌, ◌==◌, List, [], ◌∷◌, ◌++◌, Some, None}
 use Rattle.std.proofs.Common.{map, take, length, get_or, refl, sym, ap, ◌∙◌, arith, add-one}
 use Rattle.std.specs.List.{slice_split}
-use Rattle.race_model.specs.PositionText.{count_value, IsPositionText}
+use Rattle.race_model.specs.Prelude.{count_value, IsPositionText}
 
 -- the parts of a text, between its commas
 abbrev pub parts : List ℕ → List (List ℕ)

@@ -1,15 +1,12 @@
 -- The text that a position is written as, and that it states the position's counts.
-use Rattle.std.proofs.Common.{◌≡◌, ℕ, zero, suc, ◌+◌, ◌*◌, ◌<◌, ◌≤◌, ◌==◌, Bool, true, false, not}
-use Rattle.std.proofs.Common.{◌&&◌, List, [], ◌∷◌, ◌++◌, Some, map, take, length, get_or, sum, refl}
-use Rattle.std.proofs.Common.{sym, ap, ◌∙◌, arith, append_assoc, lit≤, length-append, length-take}
-use Rattle.std.proofs.Common.{add-one}
-use Rattle.std.specs.Prelude.{decimal}
+use Rattle.std.proofs.Common.{◌≡◌, ℕ, zero, suc, ◌+◌, ◌*◌, ◌<◌, ◌≤◌, ◌==◌, Bool, true, false, not, ◌&&◌, List, [], ◌∷◌}
+use Rattle.std.proofs.Common.{◌++◌, Some, map, take, length, get_or, sum, refl, sym, ap, ◌∙◌, arith, append_assoc, lit≤}
+use Rattle.std.proofs.Common.{length-append, length-take, add-one, decimal}
 use Rattle.std.specs.Fmt.{digits}
 use Rattle.std.specs.List.{slice_split, join_with_byte}
 use Rattle.std.proofs.lemmas.List.Sums.{sum_by-cons, sum_by-take-le}
 use Rattle.std.proofs.lemmas.List.{take_more}
-use Rattle.race_model.specs.Positions.{IsPosition}
-use Rattle.race_model.specs.PositionText.{count_value, IsPositionText}
+use Rattle.race_model.specs.Prelude.{IsPosition, count_value, IsPositionText}
 
 -- counts in decimal with commas between
 abbrev pub joined : List ℕ → List ℕ

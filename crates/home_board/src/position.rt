@@ -1,6 +1,7 @@
 //! A position: six points and at most 15 checkers.
 ghost use Rattle.std.specs.Prelude.{◌≡◌, ℕ, ◌+◌, ◌*◌, ◌<◌, ◌≤◌, ◌↔◌, List, replicate, IsTrue, IsOk, IfOk};
-ghost use Rattle.race_model.specs.Positions.{IsPosition, IsFinished, IsHighest, count, checkers, pips, finished};
+ghost use Rattle.race_model.specs.Prelude.{IsPosition, IsFinished, IsHighest, checkers, pips, finished};
+ghost use Rattle.race_model.specs.Positions.{count};
 ghost use Rattle.std.proofs.Common.{rules};
 ghost use Rattle.std.specs.Cmp.{partial_order_from_own_ties};
 ghost use Rattle.std.specs.Cmp.Rules.{comparing};
@@ -14,7 +15,7 @@ use thiserror::Error;
 /// The greatest pip bound of a database, in pips (this project's profile).
 pub const MAX_BOUND: u8 = 58;
 
-/// The greatest pip bound of a database of version 1, in pips (this project's profile).
+/// The greatest pip bound of a database of version 1, in pips.
 pub const OLD_BOUND: u8 = 44;
 
 /// The refusal of counts that add up to more than 15, the number of a player's checkers.

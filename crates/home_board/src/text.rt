@@ -1,7 +1,6 @@
 //! A position as text, six counts with commas, read and written.
 ghost use Rattle.std.specs.Prelude.{◌≡◌, ℕ, ◌<◌, ◌↔◌, List, map, min, IfOk, IfSome, IsNone};
-ghost use Rattle.race_model.specs.Positions.{checkers};
-ghost use Rattle.race_model.specs.PositionText.{count_value, IsPositionText};
+ghost use Rattle.race_model.specs.Prelude.{checkers, count_value, IsPositionText};
 
 use crate::position::{Position, TooMany};
 use arrayvec::{ArrayString, ArrayVec};
@@ -72,7 +71,7 @@ fn parse_counts(text: &[u8]) -> Option<[u8; 6]>
 }
 
 /// The position that a text states: six counts of one to three digits with commas between, that of
-/// point 1 first (this project's profile). Refused as `BadText` where the bytes are no such text,
+/// point 1 first. Refused as `BadText` where the bytes are no such text,
 /// and as `TooMany` where the counts add up to more than 15.
 pub fn parse_position(text: &[u8]) -> Result<Position, PositionFault>
     ensures read { IfOk result (λ position. IsPositionText text.now position) }

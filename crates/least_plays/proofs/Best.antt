@@ -1,29 +1,23 @@
 -- The best of what dice lead to, from the best of what they lead to after a step.
-use Rattle.std.proofs.Common.{◌≡◌, inr, ⊎_elim, ◌↔◌, ℕ, zero, suc, ◌+◌, ◌-◌, ◌<◌, ◌≤◌, List, [], ◌∷◌, length}
-use Rattle.std.proofs.Common.{replicate, refl, ap, sym, subst, ◌∙◌, arith, below_more}
-use Rattle.std.proofs.Common.{◌≢◌, set, get_or-set_other, get_or-set_same}
+use Rattle.std.proofs.Common.{◌≡◌, inr, ⊎_elim, ◌↔◌, ℕ, zero, suc, ◌+◌, ◌-◌, ◌<◌, ◌≤◌, List, [], ◌∷◌, length, replicate}
+use Rattle.std.proofs.Common.{refl, ap, sym, subst, ◌∙◌, arith, below_more, ◌≢◌, set, get_or-set_other, get_or-set_same}
+use Rattle.std.proofs.Common.{slice_index, inl}
 use Rattle.std.proofs.lemmas.Bool.{eq-eqb, ne_eqb}
-use Rattle.std.specs.Prelude.{slice_index}
 use Rattle.race_model.proofs.Dice.Faces.{same_die, same_number, number_positive}
 use Rattle.race_model.proofs.Plays.Spent.{number_most}
-use Rattle.race_model.specs.Positions.{Board, IsFinished, pips}
-use Rattle.race_model.specs.Dice.{Die, one, two, three, four, five, six, number}
-use Rattle.race_model.specs.Plays.{Step, Run}
-use Rattle.race_model.specs.Ranks.{rank}
-use Rattle.race_model.specs.BestPlays.{IsBestOf}
+use Rattle.race_model.specs.Prelude.{Board, IsFinished, pips, Die, one, two, three, four, five, six, number, Step, Run}
+use Rattle.race_model.specs.Prelude.{rank, IsBestOf, IsHighest, fewer, more, StepFrom}
 use Rattle.race_model.proofs.Plays.Steps.{to_position, fewer_pips}
 use Rattle.race_model.proofs.Plays.Spent.{step_takes}
 use Rattle.race_model.proofs.Ranks.RankOrder.{rank-fewer, rank_bound}
 use Rattle.race_model.proofs.Ranks.BestPlays.{run_lower}
-use Rattle.race_model.specs.Positions.{IsHighest, count, fewer, more}
-use Rattle.race_model.specs.Plays.{StepFrom}
+use Rattle.race_model.specs.Positions.{count}
 use Rattle.race_model.proofs.Plays.Enumerated.{from_occupied}
 use Rattle.std.proofs.lemmas.Bool.{cases_lt}
 use Rattle.legal_plays.proofs.StepLemmas.{step_source}
 use Rattle.least_plays.specs.Firsts.{IsNoWorse, IsBetterOf, IsFirst, IsBestFirst}
 use Rattle.least_plays.specs.Known.{number_in, kept_in, dice_left, start_of, IsBestAfter, IsNext, IsStart}
 use Rattle.least_plays.proofs.Chains.{step_to, can_step, can_step_highest}
-use Rattle.std.proofs.Common.{inl}
 use Rattle.least_plays.specs.declared.room.LeastPlays.{LeastPlays}
 
 -- what is no worse than a rank is no worse than any rank that this is no worse than
@@ -70,7 +64,7 @@ module _ (mean kept : ℕ → ℕ) (x : Board) (d : Die) (top : ℕ) (highest : 
         seen;
   }
 
-  -- .. and the better of the best so far and of what is kept of one step more is the next
+  -- the better of the best so far and of what is kept of one step more is the next
   pub first_more : (s q r : ℕ) → number d ≤ s → 0 < count x s → IsFirst mean kept x d top s q →
       IsBetterOf mean q (kept (rank (more (fewer x s) (s - number d)))) r →
       IsFirst mean kept x d top (s + 1) r
@@ -103,7 +97,7 @@ module _ (mean kept : ℕ → ℕ) (x : Board) (d : Die) (top : ℕ) (highest : 
         seen;
   }
 
-  -- .. the best so far where there is no step more
+  -- the best so far is the next where there is no step more
   pub first_same : (s r : ℕ) → ((z : Board) → ¬ StepFrom x (number d) s z) →
       IsFirst mean kept x d top s r → IsFirst mean kept x d top (s + 1) r
   first_same s r none before = record {
@@ -156,7 +150,7 @@ six_of xs =
     slice_index xs 0 ∷ slice_index xs 1 ∷ slice_index xs 2 ∷ slice_index xs 3 ∷ slice_index xs 4
     ∷ slice_index xs 5 ∷ []
 
--- .. by the number of a die
+-- the number of a die among the first six
 six_of-is : (xs : List ℕ) (e : Die) →
     slice_index (six_of xs) (number e - 1) ≡ slice_index xs (number e - 1)
 unfolding six_of
@@ -237,7 +231,7 @@ module _ {n : ℕ} (mean : ℕ → ℕ) (size : ℕ) (plays : LeastPlays n) (x :
       (rank-fewer z x there next.position (fewer_pips x d z step))
       ((rank_bound x (pips z + 6) next.position).1 (step_takes x d z step)) e n (omega arith)
 
-  -- .. and a rank whose mean is there
+  -- what is kept of a position one step on is a rank whose mean is there
   pub kept_held : (d e : Die) (n : ℕ) (z : Board) → n ≤ 3 → Step x d z →
       number_in plays.rows (rank z) e n < size
   kept_held d e n z few step =

@@ -1,12 +1,11 @@
 -- The steps of each die from a point.
-use Rattle.std.proofs.Common.{◌≡◌, ◌≢◌, ⊎_elim, ℕ, zero, suc, ◌+◌, ◌-◌, ◌<◌, ◌≤◌, List, []}
-use Rattle.std.proofs.Common.{length, get_or, set, get_or-set_other, ap, ◌∙◌, refl, arith}
-use Rattle.std.specs.Prelude.{slice_index}
+use Rattle.std.proofs.Common.{◌≡◌, ◌≢◌, ⊎_elim, ℕ, zero, suc, ◌+◌, ◌-◌, ◌<◌, ◌≤◌, List, [], length, get_or, set}
+use Rattle.std.proofs.Common.{get_or-set_other, ap, ◌∙◌, refl, arith, slice_index}
 use Rattle.std.proofs.lemmas.Bool.{cases_lt}
 use Rattle.std.proofs.lemmas.List.{get_or-set_same}
-use Rattle.race_model.specs.Positions.{Board, IsHighest, count, fewer, more}
-use Rattle.race_model.specs.Dice.{Die, one, two, three, four, five, six, number}
-use Rattle.race_model.specs.Plays.{StepFrom, bear_off, move_down, from_highest}
+use Rattle.race_model.specs.Prelude.{Board, IsHighest, fewer, more, Die, one, two, three, four, five, six, number}
+use Rattle.race_model.specs.Prelude.{StepFrom, bear_off, move_down, from_highest}
+use Rattle.race_model.specs.Positions.{count}
 use Rattle.race_model.proofs.Dice.Faces.{number_positive}
 use Rattle.least_plays.specs.Firsts.{at_die}
 
@@ -35,7 +34,7 @@ can_step x d s few occupied = ⊎_elim
     bear_off at occupied (ap (λ t. more (fewer x s) t) e))
     (cases_lt d s)
 
--- .. and from the highest point by any number of them
+-- the checker on the highest point can step by any number of pips
 pub can_step_highest : (x : Board) (d h : ℕ) → IsHighest x h →
     StepFrom x d h (more (fewer x h) (h - d))
 can_step_highest x d h top = ⊎_elim
@@ -72,7 +71,7 @@ at_die-other best i row d j apart =
     (get_or-set_other {A = List ℕ} best i (number d - 1) row []
     (λ e. apart (omega (arith, e, number_positive d))))
 
--- .. and its own is what was written
+-- the number of a die that is written is what was written
 pub at_die-same : (best : List (List ℕ)) (i : ℕ) (row : List ℕ) (d : Die) (j : ℕ) →
     number d ≡ i + 1 → i < length best → at_die (set best i row) d j ≡ slice_index row j
 at_die-same best i row d j same inside =

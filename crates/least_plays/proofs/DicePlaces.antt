@@ -1,7 +1,7 @@
 -- The places of the two dice of a roll stand in the tables under its index.
 use Rattle.std.proofs.Common.{◌≡◌, ℕ, ◌-◌, ◌<◌, slice_index}
 use Rattle.std.proofs.lemmas.List.{get_or-map}
-use Rattle.race_model.specs.Dice.{one, Throw, number, all_rolls, roll_at}
+use Rattle.race_model.specs.Prelude.{one, Throw, number, all_rolls, roll_at}
 use Rattle.least_plays.specs.declared.starts.TheConstants.{HIGH_PLACES, LOW_PLACES}
 
 -- a throw

@@ -1,10 +1,7 @@
 -- A refused play is the first fault of the record of a rank, by what a checker asks of plays.
 use Rattle.std.proofs.Common.{◌↔◌, ℕ, ◌<◌, refl, arith}
-use Rattle.race_model.specs.Dice.{roll_at}
-use Rattle.race_model.specs.Ranks.{at_rank, count_to}
-use Rattle.race_model.specs.Books.{Book, IsPlayedIn}
-use Rattle.race_model.specs.LocalEquations.{IsBestIn}
-use Rattle.race_model.specs.FirstFault.{Test, play_test, least_test, AsksIn, IsFirstInRecord}
+use Rattle.race_model.specs.Prelude.{roll_at, at_rank, count_to, Book, IsPlayedIn, IsBestIn, Test, play_test}
+use Rattle.race_model.specs.Prelude.{least_test, AsksIn, IsFirstInRecord}
 use Rattle.race_model.proofs.FirstFaults.InRecord.{PlaysHold, before_play, before_least}
 use Rattle.least_plays.specs.Recorded.{IsRefusedIn, IsFirstRefusedIn}
 use Rattle.least_plays.specs.declared.recorded.RefusedPlay.{RefusedPlay}

@@ -1,15 +1,13 @@
 -- What is known of the positions before the next rank: nothing at first, one position more after
 -- each, and by means that agree on lower ranks the same.
-use Rattle.std.proofs.Common.{◌≡◌, ◌≢◌, ⊎_elim, ℕ, zero, suc, ◌+◌, ◌-◌, ◌%◌, ◌<◌, List, []}
-use Rattle.std.proofs.Common.{◌∷◌, length, replicate, get_or, set, sym, ap, subst, ◌∙◌, arith}
-use Rattle.std.proofs.Common.{get_or-set_other, get_or-set_same}
-use Rattle.std.specs.Prelude.{slice_index, slice_index_or}
+use Rattle.std.proofs.Common.{◌≡◌, ◌≢◌, ⊎_elim, ℕ, suc, ◌+◌, ◌-◌, ◌%◌, ◌<◌, List, [], ◌∷◌, length, replicate, get_or}
+use Rattle.std.proofs.Common.{set, sym, ap, subst, ◌∙◌, arith, get_or-set_other, get_or-set_same, slice_index}
+use Rattle.std.proofs.Common.{slice_index_or}
 use Rattle.std.proofs.lemmas.Bool.{cases_lt}
 use Rattle.std.proofs.lemmas.List.{length-replicate, length-set}
 use Rattle.std.proofs.Math.Nat.{mod-eq_of_lt}
-use Rattle.race_model.specs.Positions.{Board, IsPosition, pips}
-use Rattle.race_model.specs.Dice.{Die, one, two, three, four, five, six, number}
-use Rattle.race_model.specs.Ranks.{rank, count_to}
+use Rattle.race_model.specs.Prelude.{Board, IsPosition, pips, Die, one, two, three, four, five, six, number, rank}
+use Rattle.race_model.specs.Prelude.{count_to}
 use Rattle.race_model.proofs.Plays.MostPlays.{get_or-zeros}
 use Rattle.race_model.proofs.Plays.Results.{run_to_position}
 use Rattle.race_model.proofs.Plays.Spent.{run_takes}
@@ -19,10 +17,6 @@ use Rattle.race_model.proofs.Ranks.BestPlays.{run_lower, run-agree_reached}
 use Rattle.least_plays.specs.Known.{HasRows, row_in, number_in, IsBestAfter, Knows}
 use Rattle.least_plays.specs.declared.room.Row.{Row}
 use Rattle.least_plays.specs.declared.room.LeastPlays.{LeastPlays}
-
--- before the first rank there is nothing to know
-pub knows_nothing : {n : ℕ} (mean : ℕ → ℕ) (plays : LeastPlays n) → Knows mean plays 0
-knows_nothing mean plays = record { each = λ y at lower. absurd (omega arith) }
 
 -- ranks that are less than 11,452 apart have rows of their own, where there are rows for them
 rows_apart : (rows r n : ℕ) → HasRows rows n → r < n → n < r + 11452 → r % rows ≢ n % rows
@@ -36,7 +30,7 @@ rows_apart rows r n has below near e = ⊎_elim
     omega arith)
     has.own
 
--- .. at least one
+-- where there are rows for them, there is at least one
 pub has_some : (rows r : ℕ) → HasRows rows r → 0 < rows
 has_some rows r has = ⊎_elim (λ few. omega arith) (λ usual. omega arith) has.own
 
@@ -55,7 +49,7 @@ number_in-other rows place r row d n apart =
     ∙ ap (λ row. kept_in row d n)
     (get_or-set_other {A = Row} rows place (r % length rows) row (record { after = [] }) apart)
 
--- .. and has what was written
+-- a row that is written has what was written
 number_in-same : (rows : List Row) (place r : ℕ) (row : Row) (d : Die) (n : ℕ) →
     r % length rows ≡ place → place < length rows →
     number_in (set rows place row) r d (suc n)
@@ -122,24 +116,11 @@ knows_agree_near mean other plays next agree known = record {
       (known.each y at lower near d n few);
 }
 
--- .. so it is by means that agree below the last rank
+-- the same is known by means that agree below the last rank
 pub knows_agree : {size : ℕ} (mean other : ℕ → ℕ) (plays : LeastPlays size) (next : ℕ) →
     ((q : ℕ) → q + 1 < next → mean q ≡ other q) → Knows mean plays next → Knows other plays next
 knows_agree mean other plays next agree =
     knows_agree_near mean other plays next (λ z at lower near. agree (rank z) lower)
-
--- what is kept, by the places in a row
-pub number_in-some : (rows : List Row) (r : ℕ) (d : Die) (n place i j : ℕ) → place ≡ r →
-    i ≡ number d - 1 → j + 1 ≡ n →
-    number_in rows r d n
-    ≡ slice_index
-    (slice_index_or (slice_index_or rows (place % length rows) (record { after = [] })).after i [])
-    j
-unfolding number_in row_in kept_in
-number_in-some rows r d zero place i j at first second = absurd (omega arith)
-number_in-some rows r d (suc n) place i j at first second =
-    let e : n ≡ j = omega arith in
-    rw (at, first, e)
 
 -- the row of the finished position has rank 0 everywhere
 pub finished_row : (d : Die) (n : ℕ) →

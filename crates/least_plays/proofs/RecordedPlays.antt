@@ -1,13 +1,8 @@
 -- What is known of what is recorded for a throw, by the best of its results; and what a book says
 -- then, whose means are those on all that the throw leads to.
 use Rattle.std.proofs.Common.{◌≡◌, ℕ, ◌<◌, ◌≤◌, refl, sym, ap, subst, ⊎_elim, ◌∙◌, arith}
-use Rattle.race_model.specs.Positions.{Board, IsPosition, IsFinished}
-use Rattle.race_model.specs.Dice.{Throw, roll_at}
-use Rattle.race_model.specs.Plays.{Legal}
-use Rattle.race_model.specs.Ranks.{rank, at_rank}
-use Rattle.race_model.specs.Books.{Book, play_in, mean_in, IsPlayedIn}
-use Rattle.race_model.specs.LocalEquations.{IsBestIn}
-use Rattle.race_model.specs.BestPlays.{IsBestPlay}
+use Rattle.race_model.specs.Prelude.{Board, IsPosition, IsFinished, Throw, roll_at, Legal, rank, at_rank, Book, play_in}
+use Rattle.race_model.specs.Prelude.{mean_in, IsPlayedIn, IsBestIn, IsBestPlay}
 use Rattle.race_model.proofs.Plays.Results.{legal_position, legal_finished, finished_or_not}
 use Rattle.race_model.proofs.Ranks.RankOrder.{at_rank-rank}
 use Rattle.race_model.proofs.Ranks.BestPlays.{legal_lower}

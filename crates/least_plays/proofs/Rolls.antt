@@ -1,12 +1,8 @@
 -- The best play of a roll, from the best after its dice in either order.
-use Rattle.std.proofs.Common.{◌≡◌, ◌≢◌, ◌⊎◌, inl, inr, ⊎_elim, ◌↔◌, ℕ, ◌-◌, ◌<◌, [], ◌∷◌, replicate}
-use Rattle.std.proofs.Common.{sym, ap, subst, ◌∙◌, arith}
-use Rattle.std.specs.Prelude.{slice_index, slice_index_or}
-use Rattle.race_model.specs.Positions.{Board}
-use Rattle.race_model.specs.Dice.{Die, Throw, number}
-use Rattle.race_model.specs.Plays.{Run, Legal}
-use Rattle.race_model.specs.Ranks.{rank}
-use Rattle.race_model.specs.BestPlays.{IsBestPlay}
+use Rattle.std.proofs.Common.{◌≡◌, ◌≢◌, ◌⊎◌, inl, inr, ⊎_elim, ◌↔◌, ℕ, zero, suc, ◌-◌, ◌<◌, [], ◌∷◌, replicate, sym, ap}
+use Rattle.std.proofs.Common.{ap₂, subst, ◌∙◌, arith, slice_index, slice_index_or}
+use Rattle.std.proofs.lemmas.Bool.{cases_eq}
+use Rattle.race_model.specs.Prelude.{Board, Die, Throw, number, Run, Legal, rank, IsBestPlay}
 use Rattle.race_model.proofs.Dice.Faces.{same_number, number_positive}
 use Rattle.race_model.proofs.Ranks.BestPlays.{run_lower}
 use Rattle.legal_plays.proofs.LegalLemmas.{legal_double, legal_apart}
@@ -41,7 +37,7 @@ module _ (mean : ℕ → ℕ) (count : ℕ) (starts : Starts) (are : AreStarts m
       omega (arith, lower, y.2, are.held)
 
   -- the best play of a double
-  pub double_best : (v : Throw) (i j : ℕ) → i ≡ number v.first - 1 → j ≡ number v.second - 1 →
+  double_best : (v : Throw) (i j : ℕ) → i ≡ number v.first - 1 → j ≡ number v.second - 1 →
       i ≡ j → IsBestPlay mean starts.position v (play i j)
   double_best v i j first second same =
       let e : number v.first ≡ number v.second =
@@ -56,8 +52,8 @@ module _ (mean : ℕ → ℕ) (count : ℕ) (starts : Starts) (are : AreStarts m
       (subst (λ e. IsBestAfter mean starts.position (v.first ∷ replicate 3 e) (play i j))
       (sym double) left)
 
-  -- .. and of two different dice
-  pub apart_best : (v : Throw) (i j r : ℕ) → i ≡ number v.first - 1 → j ≡ number v.second - 1 →
+  -- the best play of two different dice
+  apart_best : (v : Throw) (i j r : ℕ) → i ≡ number v.first - 1 → j ≡ number v.second - 1 →
       i ≢ j → (r ≡ play i j) ⊎ (r ≡ play j i) → IsNoWorse mean r (play i j) →
       IsNoWorse mean r (play j i) → IsBestPlay mean starts.position v r
   apart_best v i j r first second apart one before now =
@@ -101,3 +97,22 @@ module _ (mean : ℕ → ℕ) (count : ℕ) (starts : Starts) (are : AreStarts m
           subst (λ n. IsBestAfter mean starts.position (v.second ∷ replicate n v.first) (play j i))
           (dice_left-apart v.second v.first (λ e. differ (sym e)))
           (play-at v.second v.first j i second first)
+
+  -- the best play of a roll is the better of both orders
+  pub better_best : (v : Throw) (i j r : ℕ) → i ≡ number v.first - 1 → j ≡ number v.second - 1 →
+      (r ≡ play i j) ⊎ (r ≡ play j i) → IsNoWorse mean r (play i j) →
+      IsNoWorse mean r (play j i) → IsBestPlay mean starts.position v r
+  better_best v i j r first second one before now = ⊎_elim
+      (λ same.
+      let e : play j i ≡ play i j = ap₂ play (sym same) same in
+      subst (IsBestPlay mean starts.position v)
+      (sym (⊎_elim (λ is. is) (λ is. is ∙ e) one))
+      (double_best v i j first second same))
+      (λ apart. apart_best v i j r first second apart one before now)
+      (cases_eq i j)
+
+-- what holds at the first place and at each of those behind it holds at each place
+pub each : (P : ℕ → Type 0) (n : ℕ) → P 0 → ((j : ℕ) → j < n → P (suc j)) → (j : ℕ) →
+    j < suc n → P j
+each P n first others zero lt = first
+each P n first others (suc j) lt = others j (omega (arith, lt))

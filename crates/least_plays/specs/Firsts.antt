@@ -1,10 +1,7 @@
 -- The best of some ranks, the least mean and, of equal means, the lowest rank; and the best of what
 -- is kept of the steps of each die. Source: this project's profile.
 use Rattle.std.specs.Prelude.{◌≡◌, ◌⊎◌, ℕ, ◌-◌, ◌<◌, List, [], length, slice_index, slice_index_or, ◌≤◌}
-use Rattle.race_model.specs.Positions.{Board}
-use Rattle.race_model.specs.Dice.{Die, number}
-use Rattle.race_model.specs.Plays.{StepFrom, Step}
-use Rattle.race_model.specs.Ranks.{rank}
+use Rattle.race_model.specs.Prelude.{Board, Die, number, StepFrom, Step, rank}
 use Rattle.least_plays.specs.Known.{kept_in}
 use Rattle.least_plays.specs.declared.room.Row.{Row}
 

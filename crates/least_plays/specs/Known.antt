@@ -1,11 +1,8 @@
--- What is known of the positions of the last levels of pips. Source: this project's profile.
+-- What is known of the positions of the last levels of pips.
 use Rattle.std.specs.Prelude.{◌≡◌, ◌⊎◌, ℕ, zero, suc, ◌+◌, ◌-◌, ◌%◌, ◌<◌, ◌≤◌, ◌==◌, if◌then◌else◌}
 use Rattle.std.specs.Prelude.{List, [], ◌∷◌, length, replicate, slice_index, slice_index_or, slice_set}
-use Rattle.race_model.specs.Positions.{Board, IsPosition, IsFinished, pips}
-use Rattle.race_model.specs.Dice.{Die, one, two, three, four, five, six, number}
-use Rattle.race_model.specs.Plays.{Run}
-use Rattle.race_model.specs.Ranks.{rank, count_to}
-use Rattle.race_model.specs.BestPlays.{IsBestOf}
+use Rattle.race_model.specs.Prelude.{Board, IsPosition, IsFinished, pips, Die, one, two, three, four, five, six, number}
+use Rattle.race_model.specs.Prelude.{Run, rank, count_to, IsBestOf}
 use Rattle.least_plays.specs.declared.room.Row.{Row}
 use Rattle.least_plays.specs.declared.room.LeastPlays.{LeastPlays}
 use Rattle.least_plays.specs.declared.starts.Start.{Start}

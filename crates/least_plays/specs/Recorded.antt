@@ -1,12 +1,7 @@
 -- What is recorded for the rolls of a position, by any means that go by ranks; and the same said of
--- a book. Source: this project's profile.
+-- a book.
 use Rattle.std.specs.Prelude.{◌≡◌, ℕ, ◌<◌, ◌≤◌}
-use Rattle.race_model.specs.Positions.{Board}
-use Rattle.race_model.specs.Dice.{Throw, roll_at}
-use Rattle.race_model.specs.Plays.{Legal}
-use Rattle.race_model.specs.Ranks.{rank, at_rank}
-use Rattle.race_model.specs.Books.{Book, IsPlayedIn}
-use Rattle.race_model.specs.LocalEquations.{IsBestIn}
+use Rattle.race_model.specs.Prelude.{Board, Throw, roll_at, Legal, rank, at_rank, Book, IsPlayedIn, IsBestIn}
 use Rattle.least_plays.specs.declared.recorded.PlayFault.{PlayFault}
 use Rattle.least_plays.specs.declared.recorded.PlayFault.TheVariants.{NotLegal, NotLeast}
 use Rattle.least_plays.specs.declared.recorded.RefusedPlay.{RefusedPlay}
@@ -40,7 +35,7 @@ abbrev pub IsRefusedIn : Book → Board → Throw → PlayFault → Type 0
 IsRefusedIn f x v NotLegal = ¬ IsPlayedIn f x v
 IsRefusedIn f x v NotLeast = IsPlayedIn f x v × (¬ IsBestIn f x v)
 
--- .. at this roll first
+-- of all rolls this is the first at which the play equation fails, or the least equation
 pub record IsFirstRefusedIn (f : Book) (x : Board) (refused : RefusedPlay) : Type 0 where
   pub is_roll : refused.roll < 21
   pub applies : IsRefusedIn f x (roll_at refused.roll) refused.fault

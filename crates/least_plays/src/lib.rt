@@ -10,7 +10,6 @@ pub use means::RankedMeans;
 pub use recorded::{PlayFault, RefusedPlay, check_plays};
 pub use room::{LeastPlays, ROWS_TO_8, ROWS_TO_90};
 
-mod choice;
 pub mod means;
 pub mod recorded;
 pub mod room;

@@ -1,9 +1,6 @@
 //! What is recorded for the rolls of a position, tested by the best plays.
 ghost use Rattle.std.specs.Prelude.{◌≡◌, ℕ, ◌<◌, ◌≤◌, ◌↔◌, slice_index, IsTrue, IfErr, OnOk};
-ghost use Rattle.race_model.specs.Positions.{IsPosition};
-ghost use Rattle.race_model.specs.Dice.{roll_at};
-ghost use Rattle.race_model.specs.Ranks.{rank as rank_of};
-ghost use Rattle.race_model.specs.BestPlays.{IsBestPlay};
+ghost use Rattle.race_model.specs.Prelude.{IsPosition, roll_at, rank as rank_of, IsBestPlay};
 ghost use Rattle.least_plays.specs.Recorded.{IsResult, IsLeastPlay, IsRefused, IsFirstRefused};
 
 use crate::RankedMeans;
@@ -32,8 +29,9 @@ pub struct RefusedPlay {
     pub fault: PlayFault,
 }
 
-/// Tests what is recorded for the 21 rolls, in the order of their indices, where the best plays are
-/// known: each is the rank of a result of its roll with the least mean. Else the first that isn't.
+/// Tests the recorded plays of the 21 rolls against known best plays. In the order of the rolls'
+/// indices: each is the rank of a result of its roll with the least mean. Else the first that
+/// isn't.
 pub fn check_plays<M: RankedMeans>(
     means: &M,
     ranks: &Ranks,
@@ -60,8 +58,8 @@ pub fn check_plays<M: RankedMeans>(
     Ok(())
 }
 
-/// Tests what is recorded for a roll, by its index, where the best of its results is known: it is
-/// that one, at which nothing more is looked, or the rank of another result of no greater mean.
+/// Tests the recorded play of a roll, by its index, against the best result: it is that one, at
+/// which nothing more is looked, or the rank of another result of no greater mean.
 #[inline(always)]
 fn check_play<M: RankedMeans>(
     means: &M,

@@ -1,16 +1,15 @@
 //! The best ranks of the latest positions, from which those of the next are found.
 ghost use Rattle.std.specs.Prelude.{◌≡◌, ℕ, ◌+◌, ◌-◌, ◌<◌, ◌≤◌, [], length};
 ghost use Rattle.std.specs.Prelude.{slice_index, slice_index_or};
-ghost use Rattle.race_model.specs.Positions.{IsPosition, IsFinished, IsHighest, pips};
-ghost use Rattle.race_model.specs.Dice.{Die, number, roll_at};
-ghost use Rattle.race_model.specs.Ranks.{rank as rank_of};
-ghost use Rattle.race_model.specs.BestPlays.{IsBestPlay};
+ghost use Rattle.race_model.specs.Prelude.{Board, IsPosition, IsFinished, IsHighest, pips, Die, number, roll_at};
+ghost use Rattle.race_model.specs.Prelude.{rank as rank_of, IsBestPlay};
+ghost use Rattle.race_model.specs.Positions.{count};
+ghost use Rattle.ranking.specs.Chains.{IsChain};
 ghost use Rattle.least_plays.specs.Known.{HasRows, kept_in, start_of, Knows, IsNext, AreStarts};
 ghost use Rattle.least_plays.specs.Firsts.{AreFirsts, AreBest};
 ghost use Rattle.least_plays.specs.declared.starts.Start.{Start as StartValue};
 
-use crate::RankedMeans;
-use crate::choice::better_of_each;
+use crate::means::{RankedMeans, better_of_each};
 use crate::starts::{Start, Starts};
 use home_board::Position;
 use ranking::Ranks;
@@ -34,10 +33,10 @@ impl Row {
     const FINISHED: Row = Row { after: [[0; 3]; 6] };
 }
 
-/// What is known of the positions of the last levels of pips, for the best plays of the next
-/// position, in so many rows. It takes no memory but its own: 36 bytes for each row, of
-/// `ROWS_TO_90` rows 412,272, which lie where the value lies, as on the stack of the function that
-/// makes it; so lend it by `&mut`.
+/// What the best plays of the next position are found by. `ROWS` rows hold the positions of the
+/// last levels of pips. It takes no memory but its own: 36 bytes for each row, of `ROWS_TO_90`
+/// rows 412,272, which lie where the value lies, as on the stack of the function that makes it; so
+/// lend it by `&mut`.
 #[derive(Drop)]
 pub struct LeastPlays<const ROWS: usize> {
     pub(crate) rows: [Row; ROWS],
@@ -114,22 +113,24 @@ impl<const ROWS: usize> LeastPlays<ROWS> {
         ensures { AreBest (M.mean means.now) position.now self.now.rows result }
     {
         let highest = position.highest();
-        let mut best = self.first_best(ranks, position, highest);
+        let chains = ranks.chains(position);
+        let mut best = self.first_best(&chains[usize::from(highest) - 1], highest);
         for point in 1..highest {
-            self.add(&mut best, ranks, position, highest, point, means);
+            let chain = &chains[usize::from(point) - 1];
+            self.add(&mut best, chain, position, highest, point, means);
         }
         best
     }
 
-    /// What is kept of the steps from the highest point: each die has one.
+    /// What is kept of the steps from the highest point, by its chain: each die has one.
     #[inline(always)]
-    fn first_best(&self, ranks: &Ranks, position: &Position, highest: u8) -> [[u16; 9]; 6]
+    fn first_best(&self, chain: &[u16; 6], highest: u8) -> [[u16; 9]; 6]
         requires rows { (0 < ROWS) × (ROWS ≤ 11452) }
-        requires highest { IsHighest position.now highest }
+        requires some { 1 ≤ highest }
         requires range { highest ≤ 6 }
-        ensures { (mean : ℕ → ℕ) → AreFirsts mean position.now self.now.rows highest 1 result }
+        ensures { (mean : ℕ → ℕ) (x : Board) → IsHighest x highest → IsChain x highest chain.now →
+            AreFirsts mean x self.now.rows highest 1 result }
     {
-        let chain = ranks.chain(position, highest);
         let mut best = [[0; 9]; 6];
         for index in 0..6 {
             best[index] = self.kept(chain[pips_less_one(index, highest)], index);
@@ -137,12 +138,12 @@ impl<const ROWS: usize> LeastPlays<ROWS> {
         best
     }
 
-    /// The better ones of those and of what is kept of the steps from one point more, if any.
+    /// The better of these and of those with a step from one point more, by its chain.
     #[inline(always)]
     fn add<M: RankedMeans>(
         &self,
         best: &mut [[u16; 9]; 6],
-        ranks: &Ranks,
+        chain: &[u16; 6],
         position: &Position,
         highest: u8,
         point: u8,
@@ -154,6 +155,7 @@ impl<const ROWS: usize> LeastPlays<ROWS> {
         requires range { highest ≤ 6 }
         requires point { point < highest }
         requires first { 1 ≤ point }
+        requires chain { 0 < count position.now point → IsChain position.now point chain.now }
         requires before { AreFirsts (M.mean means.now) position.now self.now.rows highest point
             best.old }
         ensures { AreFirsts (M.mean means.now) position.now self.now.rows highest (point + 1)
@@ -162,7 +164,6 @@ impl<const ROWS: usize> LeastPlays<ROWS> {
         if position.count(point) == 0 {
             return;
         }
-        let chain = ranks.chain(position, point);
         for index in 0..usize::from(point) {
             best[index] = better_of_each(&best[index], &self.kept(chain[index], index), means);
         }
@@ -191,7 +192,7 @@ impl<const ROWS: usize> LeastPlays<ROWS> {
     }
 }
 
-/// How many pips a checker goes from the highest point, less one, by the index of a die.
+/// The pips that a die moves a checker from the highest point, minus one.
 #[inline(always)]
 fn pips_less_one(index: usize, highest: u8) -> usize
     requires { 1 ≤ highest }

@@ -1,7 +1,6 @@
 //! The best ranks of a position with one die first, and its best plays out of those.
 ghost use Rattle.std.specs.Prelude.{◌≡◌, ℕ, ◌<◌, length, slice_index, slice_index_or};
-ghost use Rattle.race_model.specs.Dice.{roll_at};
-ghost use Rattle.race_model.specs.BestPlays.{IsBestPlay};
+ghost use Rattle.race_model.specs.Prelude.{roll_at, IsBestPlay};
 ghost use Rattle.least_plays.specs.Known.{AreStarts};
 
 use crate::RankedMeans;
@@ -41,7 +40,7 @@ pub struct Starts {
 }
 
 impl Starts {
-    /// The best play of the roll of an index.
+    /// The best play of the roll of an index: the better of both orders, which a double has once.
     #[inline(always)]
     fn best_play<M: RankedMeans>(&self, index: usize, means: &M) -> u16
         requires starts { AreStarts (M.mean means.now) (M.count means.now) self.now }
@@ -50,11 +49,7 @@ impl Starts {
     {
         let high = usize::from(HIGH_PLACES[index]);
         let low = usize::from(LOW_PLACES[index]);
-        let first = self.dice[high].plays[low];
-        if high == low {
-            return first;
-        }
-        means.better(first, self.dice[low].plays[high])
+        means.better(self.dice[high].plays[low], self.dice[low].plays[high])
     }
 
     /// The best plays of the 21 rolls.
@@ -65,10 +60,28 @@ impl Starts {
             IsBestPlay (M.mean means.now) self.now.position (roll_at i) (slice_index result i) }
         ensures len { length result ≡ 21 }
     {
-        let mut plays = [0; 21];
-        for index in 0..21 {
-            plays[index] = self.best_play(index, means);
-        }
-        plays
+        [
+            self.best_play(0, means),
+            self.best_play(1, means),
+            self.best_play(2, means),
+            self.best_play(3, means),
+            self.best_play(4, means),
+            self.best_play(5, means),
+            self.best_play(6, means),
+            self.best_play(7, means),
+            self.best_play(8, means),
+            self.best_play(9, means),
+            self.best_play(10, means),
+            self.best_play(11, means),
+            self.best_play(12, means),
+            self.best_play(13, means),
+            self.best_play(14, means),
+            self.best_play(15, means),
+            self.best_play(16, means),
+            self.best_play(17, means),
+            self.best_play(18, means),
+            self.best_play(19, means),
+            self.best_play(20, means),
+        ]
     }
 }

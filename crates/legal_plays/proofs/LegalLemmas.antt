@@ -2,10 +2,8 @@
 use Rattle.std.proofs.Common.{◌≡◌, ◌≢◌, ℕ, zero, suc, ◌+◌, ◌-◌, List, [], ◌∷◌, length, get_or, ◌⊎◌}
 use Rattle.std.proofs.Common.{inl, inr, ◌↔◌, Contains, sym, ◌∙◌, ap, subst, refl, length-set, arith}
 use Rattle.std.proofs.lemmas.List.Elements.{Contains-get_or}
-use Rattle.race_model.specs.Positions.{Board, fewer, more}
-use Rattle.race_model.specs.Dice.{Die, Throw, number}
-use Rattle.race_model.specs.Plays.{StepFrom, Run, Legal, bear_off, move_down, from_highest}
-use Rattle.race_model.specs.Plays.{in_order, in_reverse, double}
+use Rattle.race_model.specs.Prelude.{Board, fewer, more, Die, Throw, number, StepFrom, Run, Legal, bear_off, move_down}
+use Rattle.race_model.specs.Prelude.{from_highest, in_order, in_reverse, double}
 use Rattle.race_model.proofs.Dice.Faces.{same_number}
 use Rattle.legal_plays.specs.RankOrder.{IsInRankOrder, IsAscending}
 use Rattle.legal_plays.proofs.RankLemmas.{before_less}

@@ -3,12 +3,9 @@ use Rattle.std.proofs.Common.{◌≡◌, ℕ, ◌-◌, ◌<◌, List, [], ◌∷
 use Rattle.std.proofs.Common.{inr, sym, subst, arith}
 use Rattle.std.proofs.lemmas.List.{take_all}
 use Rattle.std.proofs.lemmas.Bool.{cases_lt}
-use Rattle.race_model.specs.Positions.{Board, IsFinished}
-use Rattle.race_model.specs.Dice.{Die, number}
-use Rattle.race_model.specs.Plays.{StepFrom, Run}
+use Rattle.race_model.specs.Prelude.{Board, IsFinished, Die, number, StepFrom, Run, Moves, IsFoundBefore, IsFirstOf}
 use Rattle.race_model.proofs.Plays.PlayOrder.{one_step, moves_run}
 use Rattle.legal_plays.specs.declared.moves.Move.{Move}
-use Rattle.race_model.specs.FirstPlays.{Moves, IsFoundBefore, IsFirstOf}
 use Rattle.legal_plays.specs.MoveLists.{move_of, moves_of}
 use Rattle.legal_plays.proofs.ReachLemmas.{run_finished}
 

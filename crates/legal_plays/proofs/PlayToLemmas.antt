@@ -2,11 +2,9 @@
 use Rattle.std.proofs.Common.{◌≡◌, ◌≢◌, List, [], ◌∷◌, ◌⊎◌, inl, inr, ◌↔◌, Option, Some, None, IsSome, IfSome, IfNone}
 use Rattle.std.proofs.Common.{refl, sym, ◌∙◌, ap, subst, ℕ}
 use Rattle.arrayvec.specs.ArrayVec.{ArrayVec}
-use Rattle.race_model.specs.Positions.{Board}
-use Rattle.race_model.specs.Dice.{Die, Throw, number, IsRoll, roll_at, roll_index}
-use Rattle.race_model.specs.Plays.{Run}
+use Rattle.race_model.specs.Prelude.{Board, Die, Throw, number, IsRoll, roll_at, roll_index, Run, IsFirstOf}
+use Rattle.race_model.specs.Prelude.{IsFirstPlay, smaller_first}
 use Rattle.legal_plays.specs.declared.moves.Move.{Move}
-use Rattle.race_model.specs.FirstPlays.{IsFirstOf, IsFirstPlay, smaller_first}
 use Rattle.race_model.proofs.Plays.PlayOrder.{moves_run}
 use Rattle.legal_plays.specs.MoveLists.{moves_of}
 use Rattle.race_model.proofs.Dice.Throws.{index_of_roll}

@@ -7,8 +7,7 @@ use Rattle.std.specs.Cmp.{IsTotalOrder}
 use Rattle.std.specs.Cmp.Lexicographic.{slice_cmp}
 use Rattle.std.specs.Cmp.Rules.{comparing}
 use Rattle.std.proofs.lemmas.Bool.Decides.{nat_tests}
-use Rattle.race_model.specs.Positions.{pips}
-use Rattle.race_model.specs.Ranks.{comes_first, is_before}
+use Rattle.race_model.specs.Prelude.{pips, comes_first, is_before}
 use Rattle.home_board.specs.Order.{rank_cmp}
 
 -- positions are totally ordered

@@ -3,9 +3,7 @@ use Rattle.std.proofs.Common.{◌≡◌, ℕ, zero, ◌+◌, ◌<◌, List, [], 
 use Rattle.std.proofs.Common.{◌⊎◌, inl, inr, ◌↔◌, Contains, sym, ◌∙◌, ap, subst, refl, suc, arith}
 use Rattle.std.proofs.lemmas.List.{take_more}
 use Rattle.std.proofs.lemmas.List.Elements.{Contains-append_left, Contains-push, Contains-push_cases}
-use Rattle.race_model.specs.Positions.{Board, IsFinished}
-use Rattle.race_model.specs.Dice.{Die}
-use Rattle.race_model.specs.Plays.{Step, Run}
+use Rattle.race_model.specs.Prelude.{Board, IsFinished, Die, Step, Run}
 use Rattle.legal_plays.specs.MoveLists.{PlaysDie}
 
 -- what the die makes of one more position

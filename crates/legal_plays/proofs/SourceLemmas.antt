@@ -6,9 +6,8 @@ use Rattle.std.proofs.lemmas.Bool.Decides.{nat_tests}
 use Rattle.std.proofs.lemmas.Grind.{common_steps}
 use Rattle.std.proofs.lemmas.List.{get_or-map, length-map, length-replicate, ext_get_or}
 use Rattle.std.proofs.lemmas.List.Elements.{Contains-append_left, Contains-append_right}
-use Rattle.race_model.specs.Positions.{Board, fewer, more, IsFinished}
-use Rattle.race_model.specs.Dice.{Die, number}
-use Rattle.race_model.specs.Plays.{StepFrom, Run, bear_off, move_down, from_highest}
+use Rattle.race_model.specs.Prelude.{Board, fewer, more, IsFinished, Die, number, StepFrom, Run, bear_off, move_down}
+use Rattle.race_model.specs.Prelude.{from_highest}
 use Rattle.race_model.proofs.Dice.Faces.{number_positive}
 use Rattle.race_model.proofs.Numbers.Sums.{sum-cons, sum-zeros, zeros_of_sum}
 use Rattle.race_model.proofs.Plays.MostPlays.{get_or-zeros}
@@ -33,7 +32,7 @@ splits zero (suc k) = []
 splits (suc n) zero = map (λ cs. 0 ∷ cs) (splits n zero)
 splits (suc n) (suc k) = map (λ cs. 0 ∷ cs) (splits n (suc k)) ++ map one_more (splits (suc n) k)
 
--- .. and each of them is there
+-- each list of n numbers whose sum is k is there
 Contains-splits : (n k : ℕ) (cs : List ℕ) → length cs ≡ n → sum cs ≡ k → Contains (splits n k) cs
 unfolding one_more
 Contains-splits zero zero [] long total = (0, omega arith, refl)
@@ -65,12 +64,12 @@ length-splits = refl
 unfoldable one_at : ℕ → ℕ → ℕ
 one_at j i = cond (eqb i j) 1 0
 
--- .. is the same of two places moved by d
+-- it is the same of two places moved by d
 one_at-moved : (j d i k : ℕ) → k + d ≡ j → one_at k i ≡ one_at j (i + d)
 unfolding one_at
 one_at-moved j d i k e = grind (arith, nat_tests)
 
--- .. is 0 of a place moved by more than j
+-- it is 0 of a place moved by more than j
 one_at-below : (j d i : ℕ) → j < d → one_at j (i + d) ≡ 0
 unfolding one_at
 one_at-below j d i e = grind (arith, nat_tests)
@@ -81,7 +80,7 @@ get_or-more : (x : Board) (j i : ℕ) → j < length x →
 unfolding one_at
 get_or-more x j i inside = grind (arith, common_steps, nat_tests)
 
--- .. and after one is taken away
+-- the counts after one checker is taken away from a point
 get_or-fewer : (x : Board) (j i : ℕ) → j < length x → 0 < get_or x j 0 →
     get_or (fewer x (suc j)) i 0 + one_at j i ≡ get_or x i 0
 unfolding one_at
@@ -94,7 +93,7 @@ record HasSources (x : Board) (d n : ℕ) (y : Board) (cs : List ℕ) : Type 0 w
   same_length : length y ≡ length x
   counts : (i : ℕ) → get_or y i 0 + get_or cs i 0 ≡ get_or x i 0 + get_or cs (i + d) 0
 
--- .. which says where they lead
+-- the sources of the moves say where they lead
 one_result : (x : Board) (d n : ℕ) (y z : Board) (cs : List ℕ) → HasSources x d n y cs →
     HasSources x d n z cs → y ≡ z
 one_result x d n y z cs a b =
@@ -119,7 +118,7 @@ borne_off_source x d j y low occupied to = record {
       (omega (arith, get_or-fewer x j i (on_board x j occupied) occupied));
 }
 
--- .. and one that is moved down
+-- a checker that is moved down
 moved_source : (x : Board) (d j k : ℕ) (y : Board) → k + d ≡ j → 0 < get_or x j 0 →
     y ≡ more (fewer x (suc j)) (suc k) → HasSource x d y j
 moved_source x d j k y at occupied to = record {
@@ -222,7 +221,7 @@ sources_of_run (suc n) x d y run = elim run [
 abbrev HasKey : Board → ℕ → Board → List ℕ → Type 0
 HasKey x d y cs = (IsFinished y × (length y ≡ length x) × (cs ≡ [])) ⊎ HasSources x d 4 y cs
 
--- .. which says where it leads
+-- what is known of a double says where it leads
 one_key : (x : Board) (d : ℕ) (y z : Board) (cs : List ℕ) → 0 < length x → HasKey x d y cs →
     HasKey x d z cs → y ≡ z
 one_key x d y z cs some (inl (done_y, long_y, _)) (inl (done_z, long_z, _)) =

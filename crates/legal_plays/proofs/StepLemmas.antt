@@ -1,13 +1,11 @@
 -- The steps of a die.
-use Rattle.std.proofs.Common.{◌≡◌, ℕ, zero, suc, ◌+◌, ◌<◌, ◌≤◌, List, length, get_or, ◌⊎◌, inl, inr}
-use Rattle.std.proofs.Common.{◌↔◌, refl, sym, subst, arith}
-use Rattle.std.specs.Prelude.{sum}
+use Rattle.std.proofs.Common.{◌≡◌, ℕ, zero, suc, ◌+◌, ◌<◌, ◌≤◌, List, length, get_or, ◌⊎◌, inl, inr, ◌↔◌, refl, sym}
+use Rattle.std.proofs.Common.{subst, arith, sum}
 use Rattle.std.proofs.lemmas.Bool.{cases_lt}
 use Rattle.std.proofs.lemmas.List.{get_or_past}
 use Rattle.std.proofs.lemmas.List.Sums.{get_or-le-sum_by}
-use Rattle.race_model.specs.Positions.{Board, count, IsFinished, IsHighest}
-use Rattle.race_model.specs.Dice.{Die, number}
-use Rattle.race_model.specs.Plays.{StepFrom, Step}
+use Rattle.race_model.specs.Prelude.{Board, IsFinished, IsHighest, Die, number, StepFrom, Step}
+use Rattle.race_model.specs.Positions.{count}
 use Rattle.race_model.proofs.Plays.Enumerated.{from_occupied}
 use Rattle.race_model.proofs.Plays.PlayOrder.{one_step}
 

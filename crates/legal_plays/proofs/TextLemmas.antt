@@ -1,13 +1,11 @@
 -- The texts of moves and plays.
-use Rattle.std.proofs.Common.{flat_map, codes, append-nil, ◌≡◌, ℕ, ◌+◌, ◌<◌, ◌≤◌, List, [], ◌∷◌}
-use Rattle.std.proofs.Common.{◌++◌, length, get_or, take, map, refl, sym, ◌∙◌, ap, append_assoc}
-use Rattle.std.proofs.Common.{arith}
-use Rattle.std.specs.Prelude.{decimal}
+use Rattle.std.proofs.Common.{flat_map, codes, append-nil, ◌≡◌, ℕ, ◌+◌, ◌<◌, ◌≤◌, List, [], ◌∷◌, ◌++◌, length, get_or}
+use Rattle.std.proofs.Common.{take, map, refl, sym, ◌∙◌, ap, append_assoc, arith, decimal}
 use Rattle.std.specs.List.{join_with_byte}
 use Rattle.std.proofs.lemmas.Fmt.{length-decimal-le}
 use Rattle.std.proofs.lemmas.List.{take_more, length-take-le, map-append, length-map}
 use Rattle.legal_plays.specs.declared.moves.Move.{Move}
-use Rattle.race_model.specs.FirstPlays.{move_text}
+use Rattle.race_model.specs.Prelude.{move_text}
 use Rattle.legal_plays.specs.MoveLists.{move_of, moves_of}
 use Rattle.legal_plays.specs.Texts.{play_text}
 
@@ -50,9 +48,3 @@ play_text-next moves i m some low at =
       length-map (take i moves) move_of,
       length-take-le i moves (omega arith),
     ))
-
--- the text of a play after a space is that of its moves with a space before each
-pub flat_map-play_text : (m : ℕ × ℕ) (ms : List (ℕ × ℕ)) →
-    flat_map (λ n. codes " " ++ move_text n) (m ∷ ms) ≡ 32 ∷ play_text (m ∷ ms)
-flat_map-play_text m [] = ap (λ t. 32 ∷ t) (append-nil (move_text m))
-flat_map-play_text m (n ∷ ms) = ap (λ rest. 32 ∷ (move_text m ++ rest)) (flat_map-play_text n ms)

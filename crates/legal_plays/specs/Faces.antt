@@ -1,7 +1,7 @@
 -- How a number stands for a die, and two dice for a roll.
 use Rattle.std.proofs.Common.{◌≡◌, ℕ, zero, suc, ◌≤◌, arith, refl}
 use Rattle.std.specs.Prelude.{nat_lt, if◌then◌else◌}
-use Rattle.race_model.specs.Dice.{Die, Throw, number, one, two, three, four, five, six}
+use Rattle.race_model.specs.Prelude.{Die, Throw, number, one, two, three, four, five, six}
 
 -- the die that shows this number; which one it is for a number that no die shows is never asked
 abbrev pub face : ℕ → Die

@@ -3,9 +3,7 @@
 -- rules of backgammon.
 use Rattle.std.specs.Prelude.{ℕ, List, map, ◌≡◌, ◌⊎◌}
 use Rattle.legal_plays.specs.declared.moves.Move.{Move}
-use Rattle.race_model.specs.Positions.{Board, IsFinished}
-use Rattle.race_model.specs.Dice.{Die}
-use Rattle.race_model.specs.Plays.{Step}
+use Rattle.race_model.specs.Prelude.{Board, IsFinished, Die, Step}
 
 -- a move by its two points: the one that the checker leaves, and the one that it comes to, or 0
 abbrev pub move_of : Move → ℕ × ℕ

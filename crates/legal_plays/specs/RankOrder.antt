@@ -1,8 +1,7 @@
 -- Lists of positions by rising rank.
 use Rattle.std.specs.Prelude.{◌≡◌, List, IsTrue, AllPairs}
 use Rattle.std.specs.declared.cmp.Ordering.TheVariants.{Less}
-use Rattle.race_model.specs.Positions.{Board}
-use Rattle.race_model.specs.Ranks.{is_before}
+use Rattle.race_model.specs.Prelude.{Board, is_before}
 use Rattle.home_board.specs.Order.{rank_cmp}
 
 -- each position is before all later ones, so that none stands twice

@@ -1,8 +1,7 @@
--- The texts of rolls and plays. Source: this project's profile.
+-- The texts of rolls and plays.
 use Rattle.std.specs.Prelude.{ℕ, ◌+◌, List, [], ◌∷◌, map}
 use Rattle.std.specs.List.{join_with_byte}
-use Rattle.race_model.specs.Dice.{Die, number}
-use Rattle.race_model.specs.FirstPlays.{Move, move_text}
+use Rattle.race_model.specs.Prelude.{Die, number, Move, move_text}
 
 -- two dice as digits
 abbrev pub roll_text : Die → Die → List ℕ

@@ -1,6 +1,6 @@
 //! One die.
 ghost use Rattle.std.specs.Prelude.{◌≡◌, ◌<◌, ◌≤◌, ◌↔◌, IsSome, IfSome};
-ghost use Rattle.race_model.specs.Dice.{number};
+ghost use Rattle.race_model.specs.Prelude.{number};
 
 use std::marker::Model;
 
@@ -13,7 +13,7 @@ pub struct Die {
 // Clauses see one of the six dice.
 impl Model for Die {
     ghost use Rattle.std.specs.Prelude.{◌≤◌};
-    ghost use Rattle.race_model.specs.Dice.{Die as Face, number};
+    ghost use Rattle.race_model.specs.Prelude.{Die as Face, number};
     ghost use Rattle.legal_plays.specs.Faces.{face, number-face};
     ghost use Rattle.std.proofs.Common.{ap};
 

@@ -12,7 +12,7 @@ pub struct Move {
     pub ghost down: { to < from },
 }
 
-/// A checker borne off from point 1, which stands in the places of a play that no move takes.
+/// A checker borne off from point 1. It fills the places of a play after its last move.
 impl Default for Move {
     fn default() -> Self {
         Move { from: 1, to: 0 }

@@ -1,8 +1,7 @@
 //! The play that reaches a position.
 ghost use Rattle.std.specs.Prelude.{◌≡◌, ℕ, ◌≤◌, ◌↔◌, length, IsSome, IfSome, IfNone};
 ghost use Rattle.arrayvec.specs.ArrayVec.{array_vec_len};
-ghost use Rattle.race_model.specs.Plays.{Run, Legal};
-ghost use Rattle.race_model.specs.FirstPlays.{IsFirstOf, IsFirstPlay};
+ghost use Rattle.race_model.specs.Prelude.{Run, Legal, IsFirstOf, IsFirstPlay};
 ghost use Rattle.legal_plays.specs.MoveLists.{moves_of};
 
 use crate::{Die, Move, Roll, step};
@@ -43,10 +42,10 @@ fn search(position: &Position, dice: &[Die], target: &Position) -> Option<Play>
     None
 }
 
-/// The first play of the roll that leads from the position to the target (the order of search is
-/// this project's profile). The greater die is played first, and the smaller one first only where
-/// that doesn't lead to the target; for each die the points are tried from 6 down to 1, depth
-/// first. None exactly where the target isn't one of the roll's results.
+/// The first play of the roll from the position to the target, in the order of search. The greater
+/// die is played first, and the smaller one first only where that doesn't lead to the target; for
+/// each die the points are tried from 6 down to 1, depth first. None exactly where the target
+/// isn't one of the roll's results.
 pub fn play_to(position: &Position, roll: Roll, target: &Position) -> Option<Play>
     ensures first { IfSome result (λ play.
         IsFirstPlay position.now roll target.now (moves_of play.items)) }

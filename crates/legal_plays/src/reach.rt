@@ -1,8 +1,7 @@
 //! The positions that a roll can reach.
 ghost use Rattle.std.specs.Prelude.{◌≡◌, ℕ, ◌+◌, ◌*◌, ◌<◌, ◌≤◌, ◌↔◌, ◌⊎◌, List, [], ◌∷◌, length, Contains};
 ghost use Rattle.arrayvec.specs.ArrayVec.{array_vec_len};
-ghost use Rattle.race_model.specs.Positions.{IsFinished};
-ghost use Rattle.race_model.specs.Plays.{Step, Run, Legal};
+ghost use Rattle.race_model.specs.Prelude.{IsFinished, Step, Run, Legal};
 ghost use Rattle.legal_plays.specs.RankOrder.{IsInRankOrder, IsAscending};
 ghost use Rattle.legal_plays.specs.MoveLists.{PlaysDie};
 

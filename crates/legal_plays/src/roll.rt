@@ -1,6 +1,6 @@
 //! A roll of two dice, and its index among the 21.
 ghost use Rattle.std.specs.Prelude.{◌≡◌, ◌<◌, ◌↔◌, IsSome, IfSome};
-ghost use Rattle.race_model.specs.Dice.{IsRoll, roll_at, roll_index, weight};
+ghost use Rattle.race_model.specs.Prelude.{IsRoll, roll_at, roll_index, weight};
 ghost use Rattle.legal_plays.specs.Faces.{roll_of};
 
 use crate::Die;
@@ -16,7 +16,7 @@ pub struct Roll {
 
 // Clauses see the throw whose first die is the greater one.
 impl Model for Roll {
-    ghost use Rattle.race_model.specs.Dice.{Throw, IsRoll};
+    ghost use Rattle.race_model.specs.Prelude.{Throw, IsRoll};
 
     ghost Value = { Throw };
 
@@ -46,7 +46,7 @@ impl Roll {
         }
     }
 
-    /// The roll of an index, as 0 for 11, 1 for 21, 2 for 22, and 20 for 66; None from 21 on.
+    /// The roll of an index: 0 is 11, 1 is 21, 2 is 22, 20 is 66; None from 21 on.
     pub fn from_index(index: u8) -> Option<Self>
         ensures valid { IsSome result ↔ (index < 21) }
         ensures value { IfSome result (λ roll. roll ≡ roll_at index) }

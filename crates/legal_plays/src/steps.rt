@@ -1,16 +1,15 @@
 //! One die and one checker: the step of a die from a point.
 ghost use Rattle.std.specs.Prelude.{◌≡◌, ℕ, ◌<◌, List, IfSome, IfNone};
-ghost use Rattle.race_model.specs.Positions.{count, fewer, more};
-ghost use Rattle.race_model.specs.Dice.{number};
-ghost use Rattle.race_model.specs.Plays.{StepFrom};
+ghost use Rattle.race_model.specs.Prelude.{fewer, more, number, StepFrom};
+ghost use Rattle.race_model.specs.Positions.{count};
 
 use crate::Die;
 use home_board::Position;
 
-/// The position after the die moves one checker from the point `source`, by the bearing-off rules
-/// of backgammon: from the die's own point it is borne off, from a higher point it moves down, and
-/// from a lower one it is borne off only where that is the highest point with a checker. None
-/// where the rules allow no such move.
+/// Moves one checker from the point `source` by a die. By the bearing-off rules of backgammon:
+/// from the die's own point it is borne off, from a higher point it moves down, and from a lower
+/// one it is borne off only where that is the highest point with a checker. None where the rules
+/// allow no such move.
 #[inline(always)]
 pub fn step(position: &Position, die: Die, source: u8) -> Option<Position>
     ensures moved { IfSome result (λ y. StepFrom position.now (number die) source y) }

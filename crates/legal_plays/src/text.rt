@@ -1,9 +1,8 @@
 //! The texts of rolls and plays.
 ghost use Rattle.std.specs.Prelude.{◌≡◌, ◌+◌, ◌≤◌, ◌<◌, ◌++◌, ◌↔◌, IsSome, IfSome};
 ghost use Rattle.arrayvec.specs.ArrayString.{array_string_len};
-ghost use Rattle.race_model.specs.Dice.{Die as Face, number, IsRoll};
+ghost use Rattle.race_model.specs.Prelude.{Die as Face, number, IsRoll, point_text, move_text};
 ghost use Rattle.legal_plays.specs.Faces.{roll_of};
-ghost use Rattle.race_model.specs.FirstPlays.{point_text, move_text};
 ghost use Rattle.legal_plays.specs.MoveLists.{move_of, moves_of};
 ghost use Rattle.legal_plays.specs.Texts.{roll_text, play_text};
 
@@ -33,8 +32,7 @@ fn parse_die(digit: u8) -> Option<Die>
     Die::new(digit.checked_sub(b'0')?)
 }
 
-/// The moves with a space between each two, each from a point to a point, as `6/5`, or off
-/// the board, as `3/off` (this project's profile). The play without moves has the empty text.
+/// Writes a play as text, such as `6/5 3/off`. The play without moves has the empty text.
 pub fn write_play(play: &Play) -> ArrayString<23>
     ensures { result.bytes ≡ play_text (moves_of play.now.items) }
 {

@@ -4,8 +4,8 @@ use Rattle.std.proofs.Common.{length, get_or, refl, sym, ◌∙◌, ap, subst, a
 use Rattle.std.proofs.Common.{get_or-set_other, get_or-set_same, slice_index}
 use Rattle.std.proofs.lemmas.List.{drop_all}
 use Rattle.std.proofs.Math.Nat.{mul-suc}
-use Rattle.race_model.specs.Positions.{Board, IsPosition, count, fewer, more, pips}
-use Rattle.race_model.specs.Ranks.{rank, first_of}
+use Rattle.race_model.specs.Prelude.{Board, IsPosition, fewer, more, pips, rank, first_of}
+use Rattle.race_model.specs.Positions.{count}
 use Rattle.race_model.proofs.Plays.Steps.{Loses, one_fewer, one_moved, occupied_place}
 use Rattle.race_model.proofs.Ranks.RankCounts.{later}
 use Rattle.race_model.proofs.Ranks.RankOrder.{pips-range, rank-later, first_of-suc}
@@ -38,7 +38,7 @@ sum_from-parts f a m (suc n) =
     let at : a + (m + n) ≡ a + m + n = omega arith in
     ap (sum_from f a) e ∙ omega (arith, sum_from-parts f a m n, ap f at)
 
--- .. and no part is greater
+-- no part of a sum is greater than it
 pub sum_from-part : (f : ℕ → ℕ) (a m n : ℕ) → m ≤ n → sum_from f a m ≤ sum_from f a n
 sum_from-part f a m n few =
     let e : m + (n - m) ≡ n = omega (arith, few) in
@@ -96,7 +96,7 @@ left-falls x n (suc m) =
       omega (arith, before.1, ap (pips_left x) e),
     )
 
--- .. and no more than there is
+-- what is left beyond a point is no more than there is
 pub left-most : (x : Board) (p : ℕ) → IsPosition x → (checkers_left x p ≤ 15) × (pips_left x p ≤ 90)
 unfolding checkers_left pips_left
 left-most x p q =
@@ -123,7 +123,7 @@ left_below x (suc k) p q occupied lower =
       omega (arith, falls.1, ap (pips_left x) e, fit.weight, product),
     )
 
--- .. and beyond no point from its own on
+-- a checker on a point is left beyond no point from its own on
 pub left_above : (x : Board) (s p : ℕ) → IsPosition x → 0 < count x s → s ≤ p →
     checkers_left x p + 1 ≤ 15
 unfolding checkers_left
@@ -143,7 +143,7 @@ put-other z (suc j) zero apart = refl
 put-other z (suc j) (suc k) apart =
     get_or-set_other z j k (get_or z j 0 + 1) 0 (λ e. apart (ap suc e))
 
--- .. and is there
+-- a checker more on a point is there
 put-same : (z : Board) (t : ℕ) → 1 ≤ t → t ≤ length z → count (more z t) t ≡ suc (count z t)
 put-same z zero first last = absurd (omega arith)
 put-same z (suc j) first last =
@@ -156,7 +156,7 @@ taken-other x (suc j) zero apart = refl
 taken-other x (suc j) (suc k) apart =
     get_or-set_other x j k (get_or x j 0 - 1) 0 (λ e. apart (ap suc e))
 
--- .. and is gone there
+-- a checker fewer on a point is gone there
 taken-same : (x : Board) (s : ℕ) → 0 < count x s → suc (count (fewer x s) s) ≡ count x s
 taken-same x zero occupied = absurd (omega arith)
 taken-same x (suc j) occupied =
@@ -182,7 +182,7 @@ less_same x y n a b same before = (
   omega (arith, before.1, ap (λ c. suc n * c) same),
 )
 
--- .. with a checker more
+-- a point with as many checkers, after one more
 less_more : (x y : Board) (n b : ℕ) → count y (suc n) ≡ suc (count x (suc n)) →
     IsLess x y n 0 b → IsLess x y (suc n) 1 (b + suc n)
 unfolding checkers_left pips_left IsLess
@@ -196,7 +196,7 @@ less_more x y n b one before = (
   ),
 )
 
--- .. with a checker fewer
+-- a point with as many checkers, after one fewer
 less_fewer : (x y : Board) (n : ℕ) → suc (count y (suc n)) ≡ count x (suc n) →
     IsLess x y n 1 (suc n) → IsLess x y (suc n) 0 0
 unfolding checkers_left pips_left IsLess
@@ -397,7 +397,7 @@ pub record IsBefore (y : Board) (start later : ℕ) : Type 0 where
   pub inside : later < start
   pub value : start - 1 - later ≡ rank y
 
--- .. as it does of each position
+-- what comes before gives the rank of each position
 before : (y : Board) (p l : ℕ) → IsPosition y → p ≡ pips y → later 1 15 y ≡ l →
     IsBefore y (first_of (p + 1)) l
 before y p l at weighs is =
@@ -428,7 +428,7 @@ down_before x s t d q occupied on positive far =
     })
     (omega (arith, lost.pips_lost)) (moved_later x s t d q occupied on positive far)
 
--- .. and where it is borne off
+-- the rank to which one checker that is borne off leads
 pub off_before : (x : Board) (s : ℕ) → IsPosition x → 0 < count x s →
     IsBefore (fewer x s) (first_of (pips x - s + 1))
     (sum_from (below x s) 1 (s - 1) + sum_from (above x 1) s (7 - s))
@@ -488,7 +488,7 @@ left-next x (suc n) first =
     let e : suc n - 1 ≡ n = omega arith in
     (omega (arith, ap (checkers_left x) e), omega (arith, ap (pips_left x) e))
 
--- .. where it fits
+-- what is left beyond a point, by what is left beyond the one below, fits
 pub left_fits : (x : Board) (n : ℕ) → IsPosition x → 1 ≤ n → n ≤ 6 →
     (count x n ≤ checkers_left x (n - 1)) × (n * count x n ≤ pips_left x (n - 1))
 left_fits x zero q first last = absurd (omega arith)
@@ -541,7 +541,7 @@ down_left left s t is occupied on lower =
     (down_before x s t (s - t) is.position occupied on (omega (arith, lower))
     (omega (arith, lower)))
 
--- .. and where it is borne off
+-- the rank to which a checker that is borne off leads, by what is left
 pub off_left : (left : Left) (s : ℕ) → IsLeft left → 0 < count left.position s →
     IsBefore (fewer left.position s) (first_of (slice_index left.pips 0 - s + 1))
     (sum_from (below left.position s) 1 (s - 1) + sum_from (above left.position 1) s (7 - s))
@@ -569,7 +569,7 @@ pub record IsReached (left : Left) (s p : ℕ) : Type 0 where
   pub term : used p (slice_index left.checkers p - 1) (slice_index left.pips p - s)
       ≡ between left.position s p
 
--- .. from a higher one
+-- what is left beyond a point that a checker from a higher one can reach
 pub reached : (left : Left) (s p : ℕ) → IsLeft left → 0 < count left.position s → p < s →
     IsReached left s p
 reached left s p is occupied lower =

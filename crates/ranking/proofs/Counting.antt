@@ -1,14 +1,12 @@
 -- How the counts of a position are found again from the number of positions that come later.
-use Rattle.std.proofs.Common.{◌≡◌, ◌≢◌, ℕ, zero, suc, ◌+◌, ◌-◌, ◌*◌, ◌<◌, ◌≤◌, List, ◌∷◌, length}
-use Rattle.std.proofs.Common.{slice_index, slice_set, drop, replicate, get_or-set_same}
-use Rattle.std.proofs.Common.{get_or-set_other, if◌then◌else◌, refl, sym, ◌∙◌}
-use Rattle.std.proofs.Common.{ap, subst, add-one, inl, inr, below_more, arith}
-use Rattle.std.specs.Prelude.{◌⊎◌, sum}
+use Rattle.std.proofs.Common.{◌≡◌, ◌≢◌, ℕ, zero, suc, ◌+◌, ◌-◌, ◌*◌, ◌<◌, ◌≤◌, List, ◌∷◌, length, slice_index}
+use Rattle.std.proofs.Common.{slice_set, drop, replicate, get_or-set_same, get_or-set_other, if◌then◌else◌, refl, sym}
+use Rattle.std.proofs.Common.{◌∙◌, ap, subst, add-one, inl, inr, below_more, arith, ◌⊎◌, sum}
 use Rattle.std.proofs.lemmas.Bool.{lt-ltb, cases_lt, cases_order}
 use Rattle.std.proofs.lemmas.List.{drop_more, length-drop, length-set}
 use Rattle.std.proofs.lemmas.Grind.{same_number_lists}
-use Rattle.race_model.specs.Positions.{Board, IsPosition, pips_from, pips, count}
-use Rattle.race_model.specs.Ranks.{rank, at_rank, first_of, count_to}
+use Rattle.race_model.specs.Prelude.{Board, IsPosition, pips_from, pips, rank, at_rank, first_of, count_to}
+use Rattle.race_model.specs.Positions.{count}
 use Rattle.race_model.proofs.Numbers.Sums.{sum-cons}
 use Rattle.race_model.proofs.Ranks.RankCounts.{later, split_all}
 use Rattle.race_model.proofs.Ranks.RankCounts as counts

@@ -1,9 +1,7 @@
 -- How a table is filled, a point at a time and a row at a time.
-use Rattle.std.proofs.Common.{◌≡◌, ◌≢◌, ℕ, zero, suc, ◌+◌, ◌-◌, ◌^◌, ◌<◌, ◌≤◌, cond, if◌then◌else◌}
-use Rattle.std.proofs.Common.{nat_lt, List, length, slice_index, slice_index_or, slice_set}
-use Rattle.std.proofs.Common.{replicate, refl, sym, ◌∙◌, ap, subst, inl, inr, add-one}
-use Rattle.std.proofs.Common.{get_or-set_other, get_or-set_same, arith}
-use Rattle.std.specs.Prelude.{◌⊎◌}
+use Rattle.std.proofs.Common.{◌≡◌, ◌≢◌, ℕ, zero, suc, ◌+◌, ◌-◌, ◌^◌, ◌<◌, ◌≤◌, cond, if◌then◌else◌, nat_lt, List}
+use Rattle.std.proofs.Common.{length, slice_index, slice_index_or, slice_set, replicate, refl, sym, ◌∙◌, ap, subst, inl}
+use Rattle.std.proofs.Common.{inr, add-one, get_or-set_other, get_or-set_same, arith, ◌⊎◌}
 use Rattle.std.proofs.lemmas.Bool.{lt-ltb, le-ltb, ne_eqb, cases_lt, cases_order}
 use Rattle.std.proofs.lemmas.List.{length-set, get_or-replicate}
 use Rattle.ranking.specs.declared.row.Row.{Row}

@@ -6,8 +6,7 @@ use Rattle.std.specs.List.{range_with_len}
 use Rattle.std.proofs.lemmas.Bool.{cases_lt, leb-true, and_parts}
 use Rattle.std.proofs.lemmas.List.{get_or-replicate}
 use Rattle.std.proofs.lemmas.List.FromFn.{get_or-map-range_with_len}
-use Rattle.race_model.specs.Positions.{Board, IsPosition, pips}
-use Rattle.race_model.specs.Ranks.{rank, first_of}
+use Rattle.race_model.specs.Prelude.{Board, IsPosition, pips, rank, first_of}
 use Rattle.race_model.proofs.Ranks.RankOrder.{first_of-suc, first_of-rises, rank_within, pips-range}
 use Rattle.ranking.specs.declared.firsts.TheConstants.{FIRSTS, LEVELS}
 use Rattle.race_model.proofs.Ranks.LevelTable.{levels, firsts}
@@ -28,7 +27,7 @@ are_before b [] = true
 are_before b (p ∷ ps) =
     (nat_le p 90 && nat_le (slice_index FIRSTS p) b) && are_before (256 + b) ps
 
--- .. each of them
+-- each of these pip counts has first positions of at most such ranks
 each_before : (b : ℕ) (ps : List ℕ) → are_before b ps ≡ true → (i : ℕ) → i < length ps →
     (slice_index ps i ≤ 90) × (slice_index FIRSTS (slice_index ps i) ≤ b + 256 * i)
 each_before b [] all i low = absurd (omega (arith, low))
@@ -83,7 +82,7 @@ level-most p low =
         ∙ ap (λ xs. get_or xs p true) all_short
         ∙ get_or-replicate 91 p true true (omega arith)
 
--- .. so n levels have at most n times as many
+-- n levels have at most n times as many positions as a level can have
 pub levels-most : (n p : ℕ) → n + p ≤ 91 → first_of (n + p) ≤ first_of p + n * 1636
 levels-most zero p low = omega (arith, ap first_of (none p))
   where

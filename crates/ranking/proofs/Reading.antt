@@ -1,10 +1,9 @@
 -- How a position is read point by point: what is left of it, and how many positions come after it.
-use Rattle.std.proofs.Common.{◌≡◌, ℕ, zero, suc, ◌+◌, ◌-◌, ◌*◌, ◌<◌, ◌≤◌, List, [], ◌∷◌, length}
-use Rattle.std.proofs.Common.{slice_index, drop, refl, sym, ◌∙◌, ap, subst, add-one, arith}
-use Rattle.std.specs.Prelude.{sum}
+use Rattle.std.proofs.Common.{◌≡◌, ℕ, zero, suc, ◌+◌, ◌-◌, ◌*◌, ◌<◌, ◌≤◌, List, [], ◌∷◌, length, slice_index, drop}
+use Rattle.std.proofs.Common.{refl, sym, ◌∙◌, ap, subst, add-one, arith, sum}
 use Rattle.std.proofs.lemmas.List.{drop_more, drop_all, length-drop}
-use Rattle.race_model.specs.Positions.{IsPosition, pips_from, pips, count}
-use Rattle.race_model.specs.Ranks.{rank, first_of}
+use Rattle.race_model.specs.Prelude.{IsPosition, pips_from, pips, rank, first_of}
+use Rattle.race_model.specs.Positions.{count}
 use Rattle.race_model.proofs.Numbers.Sums.{sum-cons}
 use Rattle.race_model.proofs.Ranks.RankCounts.{later}
 use Rattle.race_model.proofs.Ranks.RankOrder.{rank-later, first_of-suc}

@@ -1,10 +1,8 @@
 -- The recurrences of the table, from those of the counts of lists.
-use Rattle.std.proofs.Common.{◌≡◌, ℕ, zero, suc, ◌+◌, ◌-◌, ◌<◌, ◌≤◌, cond, ◌&&◌, if◌then◌else◌}
-use Rattle.std.proofs.Common.{nat_lt, min, refl, sym, ◌∙◌, ap, inl, inr, add-one, arith}
-use Rattle.std.specs.Prelude.{◌⊎◌, ◌==◌}
+use Rattle.std.proofs.Common.{◌≡◌, ℕ, zero, suc, ◌+◌, ◌-◌, ◌<◌, ◌≤◌, cond, ◌&&◌, if◌then◌else◌, nat_lt, min, refl, sym}
+use Rattle.std.proofs.Common.{◌∙◌, ap, inl, inr, add-one, arith, ◌⊎◌, ◌==◌}
 use Rattle.std.proofs.lemmas.Bool.{lt-ltb, le-ltb, cases_lt}
-use Rattle.race_model.specs.Positions.{pips_from}
-use Rattle.race_model.specs.Ranks.{first_of, count_to}
+use Rattle.race_model.specs.Prelude.{pips_from, first_of, count_to}
 use Rattle.race_model.proofs.Ranks.BoxCounts.{within}
 use Rattle.race_model.proofs.Ranks.RankCounts as counts
 use Rattle.race_model.proofs.Ranks.RankOrder as order
@@ -17,7 +15,7 @@ unfolding ways within counts.ways
 ways-is n p k m e =
     let n_is : 7 - p ≡ n = omega arith in ap (λ j. within j k (λ y. pips_from p y == m)) n_is
 
--- .. and so are those with a checker on point p
+-- the lists with a checker on point p are those of 7 - p counts
 pub used-is : (n p k m : ℕ) → n + p ≡ 6 → used p k m ≡ counts.used n p k m
 unfolding used within counts.used
 used-is n p k m e =
@@ -82,7 +80,7 @@ first_of-capped b = by_cases (cases_lt b 91) where
       ap first_of e ∙ totals.first_of-all 91 (omega arith)
       ∙ sym (totals.first_of-all b (omega arith))
 
--- .. and so where at most so many are counted
+-- pip counts above 90 count as 90 where at most so many are counted
 pub first_of-capped_suc : (b : ℕ) → first_of (min b 90 + 1) ≡ count_to b
 first_of-capped_suc b = by_cases (cases_lt b 90) where
   by_cases : (b < 90) ⊎ (90 ≤ b) → first_of (min b 90 + 1) ≡ count_to b

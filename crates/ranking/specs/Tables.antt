@@ -1,11 +1,10 @@
 -- What the table counts, lists of counts on the points from one on, and what its cells say.
 use Rattle.std.specs.Prelude.{◌≡◌, ℕ, ◌+◌, ◌<◌, length, slice_index, slice_index_or, ◌-◌, Bool, false, ◌&&◌, ◌==◌}
 use Rattle.std.specs.Prelude.{nat_lt, nat_le, List, [], ◌∷◌, count_by, sum}
-use Rattle.race_model.specs.Ranks.{first_of, boards}
+use Rattle.race_model.specs.Prelude.{first_of, boards, pips_from}
 use Rattle.ranking.specs.declared.row.Row.{Row}
 use Rattle.ranking.specs.declared.point_table.PointTable.{PointTable}
 use Rattle.ranking.specs.declared.rank_table.RankTable.{RankTable}
-use Rattle.race_model.specs.Positions.{pips_from}
 
 -- how many lists of counts, of the points from p to 6, have at most k checkers and m pips
 unfoldable pub ways : ℕ → ℕ → ℕ → ℕ

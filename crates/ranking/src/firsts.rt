@@ -1,6 +1,6 @@
 //! How many positions have fewer pips: numbers that no table has to be counted for.
 ghost use Rattle.std.specs.Prelude.{◌≡◌, ◌+◌, ◌<◌, ◌≤◌};
-ghost use Rattle.race_model.specs.Ranks.{first_of, count_to};
+ghost use Rattle.race_model.specs.Prelude.{first_of, count_to};
 
 /// How many positions have fewer pips, for each pip count from 0 to 91.
 pub const FIRSTS: [u16; 92] = [

@@ -4,8 +4,8 @@ ghost use Rattle.ranking.specs.Chains.{IsLeft};
 
 use home_board::Position;
 
-/// Of a position's 15 checkers those that are on none of the first points, and the pips of the
-/// points beyond them, by the number of these points.
+/// The checkers and pips left after each of the first points. The checkers on none of these points
+/// count, and the pips of the points beyond.
 #[derive(Clone, Copy)]
 pub(crate) struct Left {
     pub position: Position,

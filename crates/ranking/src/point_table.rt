@@ -7,7 +7,7 @@ use crate::row::{PIP_COUNTS, Row};
 /// How many numbers of checkers there are: 0 to 15.
 pub const CHECKER_COUNTS: usize = 16;
 
-/// A number of lists for each number of checkers from 0 to 15 and each pip count from 0 to 90.
+/// A number of lists for each checker count, 0 to 15, and pip count, 0 to 90.
 #[repr(C)]
 #[derive(Clone, Copy)]
 pub struct PointTable {
@@ -32,8 +32,8 @@ impl PointTable {
         }
     }
 
-    /// Turns the table of the lists on the points above one into that of the lists
-    /// from that point on, and another into that of those that have a checker there.
+    /// Extends a table from the points above a point to that point. `occupied` becomes the table
+    /// of the lists with a checker there.
     pub fn add_point(&mut self, point: u8, occupied: &mut PointTable)
         requires first { 1 ≤ point }
         requires last { point ≤ 6 }

@@ -1,10 +1,10 @@
 //! The counts by which positions are ranked, as one table that can be copied.
 ghost use Rattle.std.specs.Prelude.{◌≡◌, ℕ, ◌+◌, ◌-◌, ◌*◌, ◌<◌, ◌≤◌, ◌↔◌, List, IsSome, IfSome};
 ghost use Rattle.std.specs.Prelude.{slice_index, slice_index_or};
-ghost use Rattle.race_model.specs.Positions.{IsPosition, count, fewer, more};
-ghost use Rattle.race_model.specs.Ranks.{rank, at_rank, first_of, count_to};
+ghost use Rattle.race_model.specs.Prelude.{IsPosition, fewer, more, rank, at_rank, first_of, count_to};
+ghost use Rattle.race_model.specs.Positions.{count};
 ghost use Rattle.ranking.specs.Tables.{ways, used, IsRankTable, IsRow};
-ghost use Rattle.ranking.specs.Chains.{IsChain, IsLeft, pips_left, checkers_left};
+ghost use Rattle.ranking.specs.Chains.{IsChain, AreChains, IsLeft, pips_left, checkers_left};
 ghost use Rattle.ranking.specs.Chains.{sum_from, below, between, above};
 
 use crate::firsts;
@@ -51,14 +51,6 @@ impl RankTable {
         }
     }
 
-    /// How many positions have fewer than so many pips: the rank of
-    /// the first position of so many pips, and 54,264 above 90 pips.
-    pub fn first_of(&self, pips: u8) -> u16
-        ensures { result ≡ first_of pips }
-    {
-        firsts::first_of(pips)
-    }
-
     /// How many positions have at most so many pips; 54,264 from 90 pips on.
     pub fn count_to(&self, pips: u8) -> u16
         ensures { result ≡ count_to pips }
@@ -85,33 +77,35 @@ impl RankTable {
         self.starts[usize::from(pips) + 1] - 1 - later
     }
 
-    /// The ranks of the positions to which one checker goes from a point, by 1 pip, 2 pips and so
-    /// on, to off the board.
-    pub fn chain(&self, position: &Position, point: u8) -> [u16; 6]
-        requires table { IsRankTable self.now }
-        requires occupied { 0 < count position.now point }
-        ensures { IsChain position.now point result }
+    /// The ranks after one checker moves from each occupied point by 1, 2, .. pips.
+    pub fn chains(&self, position: &Position) -> [[u16; 6]; 6]
+        requires { IsRankTable self.now }
+        ensures { AreChains position.now result }
     {
         let left = Left::of(position);
-        match point {
-            1 => self.chain_of::<1>(&left),
-            2 => self.chain_of::<2>(&left),
-            3 => self.chain_of::<3>(&left),
-            4 => self.chain_of::<4>(&left),
-            5 => self.chain_of::<5>(&left),
-            _ => self.chain_of::<6>(&left),
-        }
+        [
+            self.chain_of::<1>(&left),
+            self.chain_of::<2>(&left),
+            self.chain_of::<3>(&left),
+            self.chain_of::<4>(&left),
+            self.chain_of::<5>(&left),
+            self.chain_of::<6>(&left),
+        ]
     }
 
-    // The same from a point that the compiler knows. Where one function uses the table more than a
-    // hundred times, it is taken to keep it, and each caller that counts one has room for two.
+    // Those of one point, which the compiler knows; anything where no checker is there. Where one
+    // function uses the table more than a hundred times, it is taken to keep it, and each caller
+    // that counts one has room for two.
     #[inline(never)]
     fn chain_of<const SOURCE: usize>(&self, left: &Left) -> [u16; 6]
         requires table { IsRankTable self.now }
         requires left { IsLeft left.now }
-        requires occupied { 0 < count left.now.position SOURCE }
-        ensures { IsChain left.now.position SOURCE result }
+        requires point { SOURCE ≤ 6 }
+        ensures { 0 < count left.now.position SOURCE → IsChain left.now.position SOURCE result }
     {
+        if left.position.count(SOURCE as u8) == 0 {
+            return [0; 6];
+        }
         self.chain_from(left, SOURCE)
     }
 

@@ -1,10 +1,10 @@
 //! Ranks of positions, by a table of counts that is made once.
 ghost use Rattle.std.specs.Prelude.{◌≡◌, ◌<◌, ◌↔◌, IsSome, IfSome};
-ghost use Rattle.race_model.specs.Positions.{IsPosition, count};
-ghost use Rattle.race_model.specs.Ranks.{rank, at_rank, first_of, count_to};
+ghost use Rattle.race_model.specs.Prelude.{IsPosition, rank, at_rank, first_of, count_to};
 ghost use Rattle.ranking.specs.Tables.{IsRankTable};
-ghost use Rattle.ranking.specs.Chains.{IsChain};
+ghost use Rattle.ranking.specs.Chains.{AreChains};
 
+use crate::firsts;
 use crate::rank_table::RankTable;
 use home_board::Position;
 
@@ -30,7 +30,7 @@ impl Ranks {
     pub fn first_of(&self, pips: u8) -> u16
         ensures { result ≡ first_of pips }
     {
-        self.table.first_of(pips)
+        firsts::first_of(pips)
     }
 
     /// How many positions have at most so many pips; 54,264 from 90 pips on.
@@ -48,13 +48,11 @@ impl Ranks {
         self.table.rank(position)
     }
 
-    /// The ranks of the positions to which one checker goes from a point, by 1 pip, 2 pips and so
-    /// on, to off the board.
-    pub fn chain(&self, position: &Position, point: u8) -> [u16; 6]
-        requires { 0 < count position.now point }
-        ensures { IsChain position.now point result }
+    /// The ranks after one checker moves from each occupied point by 1, 2, .. pips.
+    pub fn chains(&self, position: &Position) -> [[u16; 6]; 6]
+        ensures { AreChains position.now result }
     {
-        self.table.chain(position, point)
+        self.table.chains(position)
     }
 
     /// The position of a rank; none for 54,264 and above, which are no ranks.

@@ -4,7 +4,7 @@ use Rattle.std.proofs.lemmas.Bool.{eqb-true}
 use Rattle.std.proofs.lemmas.List.{length_push, take_all, length-map, map-append}
 use Rattle.std.proofs.lemmas.Iterator.Splits.{YieldsList-from_slice_split}
 use Rattle.std.proofs.lemmas.Iterator.Consumers.{YieldsList-turn, YieldsList-end}
-use Rattle.race_model.specs.PositionText.{count_value}
+use Rattle.race_model.specs.Prelude.{count_value}
 use Rattle.home_board.proofs.Counts.{listed_six, capped}
 use Rattle.home_board.proofs.Texts.{parts, length-values, no_refused, states_more}
 use Rattle.home_board.proofs.text.parse_counts.Goals as goal
@@ -27,7 +27,7 @@ next_part c =
     c.loop-part.yielded _ c.loop-part.yielded_by _ _ c.in-Some.part c.in-Some.is
     c.next.ensures.steps
 
--- .. and where there is none, the parts are those that it went over
+-- where no part is next, the parts are those that the loop went over
 no_part_left : (c : In-None) → (map (λ part. part.now) c.loop-part.yielded ≡ parts c.args.text.now)
     × (length c.loop-part.yielded ≡ length (parts c.args.text.now))
 no_part_left c =

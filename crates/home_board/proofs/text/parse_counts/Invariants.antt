@@ -1,6 +1,6 @@
 use Rattle.std.proofs.Common.{◌≡◌, ℕ, ◌==◌, List, Some, map, take, length}
 use Rattle.std.specs.List.{slice_split}
-use Rattle.race_model.specs.PositionText.{count_value}
+use Rattle.race_model.specs.Prelude.{count_value}
 use Rattle.home_board.proofs.Counts.{capped}
 use Rattle.home_board.proofs.text.parse_counts.Given as goal
 

@@ -1,6 +1,5 @@
 use Rattle.std.proofs.Common.{◌≤◌, ◌<◌, arith, refl, sym, subst, ◌∙◌}
-use Rattle.race_model.specs.Positions.{checkers}
-use Rattle.race_model.specs.PositionText.{IsPositionText}
+use Rattle.race_model.specs.Prelude.{checkers, IsPositionText}
 use Rattle.home_board.proofs.Counts.{kept_few, kept_many}
 use Rattle.home_board.proofs.Texts.{text_apart}
 use Rattle.home_board.proofs.text.parse_position.Goals as goal

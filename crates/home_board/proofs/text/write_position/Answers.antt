@@ -1,6 +1,5 @@
-use Rattle.std.proofs.Common.{◌≡◌, [], ◌∷◌, ◌++◌, get_or, take, length, sym, ap, ◌∙◌, refl, arith}
-use Rattle.std.proofs.Common.{add-one, length-append}
-use Rattle.std.specs.Prelude.{decimal}
+use Rattle.std.proofs.Common.{◌≡◌, [], ◌∷◌, ◌++◌, get_or, take, length, sym, ap, ◌∙◌, refl, arith, add-one}
+use Rattle.std.proofs.Common.{length-append, decimal}
 use Rattle.std.proofs.lemmas.List.{take_all}
 use Rattle.home_board.proofs.Written.{joined, joined_states, before_next, before_next-some}
 use Rattle.home_board.proofs.Written.{joined-before_none, joined-taken, next_fits}

@@ -1,5 +1,5 @@
 use Rattle.std.proofs.Common.{◌≡◌, ◌<◌, take}
-use Rattle.race_model.specs.Positions.{IsPosition}
+use Rattle.race_model.specs.Prelude.{IsPosition}
 use Rattle.home_board.proofs.Written.{joined}
 use Rattle.home_board.proofs.text.write_position.Given as goal
 

@@ -1,7 +1,7 @@
 -- Another number than the best is right where it is the rank of a result whose mean is no greater.
 use Rattle.std.proofs.Common.{◌≡◌, ⊎_elim, ◌<◌, true, false, sym, subst, ◌∙◌, arith, rules}
 use Rattle.std.proofs.lemmas.Bool.{false≢true, cases_lt}
-use Rattle.race_model.specs.Dice.{roll_at}
+use Rattle.race_model.specs.Prelude.{roll_at}
 use Rattle.least_plays.specs.Recorded.{IsResult}
 use Rattle.least_plays.proofs.RecordedPlays.{best-result, lower_result, least, not_least}
 use Rattle.least_plays.proofs.recorded.check_other.Given.{Over}

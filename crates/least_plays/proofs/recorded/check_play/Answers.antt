@@ -1,7 +1,6 @@
 -- The best is one of the results with the least mean.
 use Rattle.std.proofs.Common.{sym, subst, arith}
-use Rattle.race_model.specs.Dice.{roll_at}
-use Rattle.race_model.specs.BestPlays.{IsBestPlay}
+use Rattle.race_model.specs.Prelude.{roll_at, IsBestPlay}
 use Rattle.least_plays.proofs.RecordedPlays.{best-result, least}
 use Rattle.least_plays.proofs.recorded.check_play.Goals as goal
 

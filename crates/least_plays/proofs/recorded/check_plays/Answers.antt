@@ -1,7 +1,6 @@
 -- One roll more.
 use Rattle.std.proofs.Common.{sym, subst, slice_index, below_more}
-use Rattle.race_model.specs.Dice.{roll_at}
-use Rattle.race_model.specs.BestPlays.{IsBestPlay}
+use Rattle.race_model.specs.Prelude.{roll_at, IsBestPlay}
 use Rattle.least_plays.specs.Recorded.{IsLeastPlay, IsRefused}
 use Rattle.least_plays.proofs.recorded.check_plays.Goals as goal
 

@@ -1,5 +1,5 @@
 use Rattle.std.proofs.Common.{ℕ, ◌<◌, slice_index}
-use Rattle.race_model.specs.Dice.{roll_at}
+use Rattle.race_model.specs.Prelude.{roll_at}
 use Rattle.least_plays.specs.Recorded.{IsLeastPlay}
 use Rattle.least_plays.proofs.recorded.check_plays.Given as goal
 

@@ -1,8 +1,7 @@
 -- A number is the rank of a result where its position is one.
 use Rattle.std.proofs.Common.{◌≡◌, sym, ap, subst, ◌∙◌, arith}
 use Rattle.std.proofs.lemmas.Bool.{false≢true}
-use Rattle.race_model.specs.Plays.{Legal}
-use Rattle.race_model.specs.Ranks.{rank, at_rank}
+use Rattle.race_model.specs.Prelude.{Legal, rank, at_rank}
 use Rattle.race_model.proofs.Ranks.RankOrder.{at_rank_position}
 use Rattle.race_model.proofs.Ranks.PositionTotals.{rank-range}
 use Rattle.least_plays.proofs.recorded.is_result.Goals as goal

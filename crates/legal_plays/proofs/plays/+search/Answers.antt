@@ -1,7 +1,7 @@
 use Rattle.std.proofs.Common.{◌≡◌, ℕ, ◌-◌, ◌<◌, ◌⊎◌, inl, inr, length, sym, ◌∙◌, ap, arith, eqb-true}
 use Rattle.std.proofs.lemmas.Bool.{eqb-false}
 use Rattle.std.proofs.lemmas.Slice.Eq.{bytes_eq-Decides}
-use Rattle.race_model.specs.Positions.{IsFinished}
+use Rattle.race_model.specs.Prelude.{IsFinished}
 use Rattle.legal_plays.proofs.PlayLemmas.{first_at_end, run_at_end, first_of_dice, none_below}
 use Rattle.legal_plays.proofs.plays.+search.Goals as goal
 use Rattle.legal_plays.proofs.plays.+search.Goals.{After-eq, then-is_empty-via-then-is_empty}

@@ -1,6 +1,5 @@
 use Rattle.std.proofs.Common.{ℕ, ◌<◌, List, length}
-use Rattle.race_model.specs.Dice.{number}
-use Rattle.race_model.specs.Plays.{StepFrom, Run}
+use Rattle.race_model.specs.Prelude.{number, StepFrom, Run}
 use Rattle.legal_plays.proofs.plays.+search.Given as goal
 
 -- one die fewer

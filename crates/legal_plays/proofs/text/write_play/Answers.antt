@@ -1,5 +1,5 @@
 use Rattle.std.proofs.Common.{◌≡◌, [], ◌∷◌, ◌++◌, take, sym, ◌∙◌, ap, append_assoc, arith}
-use Rattle.race_model.specs.FirstPlays.{move_text}
+use Rattle.race_model.specs.Prelude.{move_text}
 use Rattle.legal_plays.specs.MoveLists.{move_of, moves_of}
 use Rattle.legal_plays.specs.Texts.{play_text}
 use Rattle.legal_plays.proofs.TextLemmas.{play_text-first, play_text-next}

@@ -1,5 +1,5 @@
 use Rattle.std.proofs.Common.{◌+◌, ap, ◌∙◌, arith}
-use Rattle.race_model.specs.Ranks.{first_of}
+use Rattle.race_model.specs.Prelude.{first_of}
 use Rattle.ranking.proofs.TableCounts.{first_of-capped_suc}
 use Rattle.ranking.proofs.LevelCounts.{at_first}
 use Rattle.ranking.proofs.firsts.count_to.Goals as goal

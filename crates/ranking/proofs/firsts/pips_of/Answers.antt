@@ -1,6 +1,6 @@
 use Rattle.std.proofs.Common.{◌≡◌, ◌+◌, ◌<◌, ◌≤◌, ◌⊎◌, inl, inr, slice_index, sym, ap, subst, ◌∙◌, arith}
 use Rattle.std.proofs.lemmas.Bool.{cases_lt}
-use Rattle.race_model.specs.Ranks.{first_of}
+use Rattle.race_model.specs.Prelude.{first_of}
 use Rattle.race_model.proofs.Ranks.PositionTotals.{first_of-all}
 use Rattle.ranking.specs.declared.firsts.TheConstants.{FIRSTS, LEVELS}
 use Rattle.ranking.proofs.LevelCounts.{at_first, level_before}

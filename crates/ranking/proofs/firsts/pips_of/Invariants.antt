@@ -1,5 +1,5 @@
 use Rattle.std.proofs.Common.{◌-◌, ◌≤◌}
-use Rattle.race_model.specs.Ranks.{first_of}
+use Rattle.race_model.specs.Prelude.{first_of}
 use Rattle.ranking.proofs.firsts.pips_of.Given as goal
 
 -- the rank is one of this pip count or of a higher one

@@ -1,6 +1,6 @@
 use Rattle.std.proofs.Common.{◌≡◌, ℕ, zero, suc, ◌+◌, ◌<◌, refl, sym, slice_index, replicate, w16, arith}
 use Rattle.std.proofs.Math.Facts.{Fits-of_lt}
-use Rattle.race_model.specs.Ranks.{first_of}
+use Rattle.race_model.specs.Prelude.{first_of}
 use Rattle.race_model.proofs.Ranks.RankOrder.{first_of-zero}
 use Rattle.ranking.proofs.Cells.{filled_more}
 use Rattle.ranking.proofs.TableCounts.{first_of-step, first_of-most}

@@ -1,5 +1,5 @@
 use Rattle.std.proofs.Common.{◌+◌}
-use Rattle.race_model.specs.Ranks.{first_of}
+use Rattle.race_model.specs.Prelude.{first_of}
 use Rattle.ranking.proofs.Cells.{IsFilled}
 use Rattle.ranking.proofs.rank_table.starts_of.Given as goal
 

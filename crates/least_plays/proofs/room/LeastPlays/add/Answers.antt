@@ -1,11 +1,9 @@
 -- One die more.
-use Rattle.std.proofs.Common.{◌≡◌, ◌+◌, ◌-◌, ◌<◌, [], ⊎_elim, List, ℕ, length-set, set}
-use Rattle.std.proofs.Common.{sym, ap, subst, ◌∙◌, arith}
-use Rattle.std.specs.Prelude.{slice_index, slice_index_or}
+use Rattle.std.proofs.Common.{◌≡◌, ◌+◌, ◌-◌, ◌<◌, [], ⊎_elim, List, ℕ, length-set, set, sym, ap, subst, ◌∙◌, arith}
+use Rattle.std.proofs.Common.{slice_index, slice_index_or}
 use Rattle.std.proofs.lemmas.Bool.{cases_lt}
-use Rattle.race_model.specs.Positions.{count, fewer, more}
-use Rattle.race_model.specs.Dice.{number}
-use Rattle.race_model.specs.Ranks.{rank}
+use Rattle.race_model.specs.Prelude.{fewer, more, number, rank}
+use Rattle.race_model.specs.Positions.{count}
 use Rattle.race_model.proofs.Dice.Faces.{number_positive}
 use Rattle.race_model.proofs.Plays.Enumerated.{from_occupied}
 use Rattle.least_plays.specs.Firsts.{IsBetterOf, IsFirst, at_die}
@@ -74,7 +72,7 @@ better_of_each-requires-clause-others g c = λ j lt.
     ≡ slice_index (kept_in c.args.self.now.rows (rank (more (fewer x s) (s - number d.0))) d.0) j =
     ap (λ xs. slice_index xs j) (c.kept.ensures d.0 few)
     ∙ ap (λ q. slice_index (kept_in c.args.self.now.rows q d.0) j)
-    (c.chain-chain.ensures.each index below ∙ ap (λ t. rank (more (fewer x s) t)) far) in
+    ((c.requires.chain occupied).each index below ∙ ap (λ t. rank (more (fewer x s) t)) far) in
     omega (arith, held, is)
 
 pub loop-index-preserved : goal.loop-index-preserved
@@ -114,7 +112,7 @@ loop-index-preserved g c =
           let there : slice_index c.kept.result j ≡ kept (rank z) =
           ap (λ xs. slice_index xs j) (c.kept.ensures d is)
           ∙ ap kept
-          (c.chain-chain.ensures.each index below_point
+          ((c.requires.chain occupied).each index below_point
           ∙ ap (λ t. rank (more (fewer x s) t)) far) in
           let new : slice_index row j ≡ now =
           sym (at_die-same best index row d j is (omega (arith, before.len, short))) in

@@ -1,6 +1,6 @@
 -- The better ones for the dice so far.
 use Rattle.std.proofs.Common.{◌≡◌, ℕ, ◌+◌, ◌<◌, ◌≤◌, length, slice_index}
-use Rattle.race_model.specs.Dice.{Die, number}
+use Rattle.race_model.specs.Prelude.{Die, number}
 use Rattle.least_plays.specs.Firsts.{IsFirst, at_die}
 use Rattle.least_plays.specs.Known.{kept_in}
 use Rattle.least_plays.proofs.room.LeastPlays.add.Given as goal

@@ -1,10 +1,7 @@
 -- The position's row is written, and its best plays are those of its starts.
 use Rattle.std.proofs.Common.{◌-◌, ◌%◌, ◌∷◌, [], replicate, slice_index, slice_index_or, sym, ap, subst, ◌∙◌}
 use Rattle.std.proofs.Common.{arith, rules, mod-lt}
-use Rattle.race_model.specs.Positions.{IsFinished}
-use Rattle.race_model.specs.Dice.{number, roll_at}
-use Rattle.race_model.specs.Ranks.{rank}
-use Rattle.race_model.specs.BestPlays.{IsBestPlay}
+use Rattle.race_model.specs.Prelude.{IsFinished, number, roll_at, rank, IsBestPlay}
 use Rattle.race_model.proofs.Dice.Faces.{number_positive}
 use Rattle.race_model.proofs.Plays.Spent.{number_most}
 use Rattle.race_model.proofs.Plays.MostPlays.{get_or-zeros}

@@ -1,7 +1,7 @@
 -- The numbers of a row by their places, whichever die it is.
 use Rattle.std.proofs.Common.{◌≡◌, ℕ, ◌-◌, ◌%◌, [], List, ◌∷◌, length, ap, refl, ◌∙◌, arith}
 use Rattle.std.proofs.Common.{slice_index, slice_index_or}
-use Rattle.race_model.specs.Dice.{Die, one, two, three, four, five, six, number}
+use Rattle.race_model.specs.Prelude.{Die, one, two, three, four, five, six, number}
 use Rattle.least_plays.specs.Known.{row_in, number_in, kept_in}
 use Rattle.least_plays.specs.declared.room.Row.{Row}
 use Rattle.least_plays.proofs.room.LeastPlays.kept.Goals as goal

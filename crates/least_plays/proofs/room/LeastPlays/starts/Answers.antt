@@ -1,8 +1,6 @@
 -- One die more.
-use Rattle.std.proofs.Common.{◌≡◌, ◌+◌, ◌-◌, [], length-set}
-use Rattle.std.proofs.Common.{sym, subst, refl, ◌∙◌, arith}
-use Rattle.std.specs.Prelude.{slice_index_or}
-use Rattle.race_model.specs.Dice.{Die, number}
+use Rattle.std.proofs.Common.{◌≡◌, ◌+◌, ◌-◌, [], length-set, sym, subst, refl, ◌∙◌, arith, slice_index_or}
+use Rattle.race_model.specs.Prelude.{Die, number}
 use Rattle.race_model.proofs.Dice.Faces.{number_positive}
 use Rattle.race_model.proofs.Plays.Spent.{number_most}
 use Rattle.race_model.proofs.Numbers.Members.{set_next}

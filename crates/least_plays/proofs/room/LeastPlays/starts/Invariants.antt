@@ -1,6 +1,6 @@
 -- The best ranks with the first dice so far.
 use Rattle.std.proofs.Common.{◌≡◌, ℕ, ◌+◌, ◌<◌, length, slice_index_or}
-use Rattle.race_model.specs.Dice.{Die, number}
+use Rattle.race_model.specs.Prelude.{Die, number}
 use Rattle.least_plays.specs.Known.{IsStart}
 use Rattle.least_plays.specs.declared.starts.Start.{Start}
 use Rattle.least_plays.proofs.room.LeastPlays.starts.Given as goal

@@ -1,10 +1,10 @@
 -- The places of the two dice, and the better of their two orders.
 use Rattle.std.proofs.Common.{◌≡◌, ◌-◌, ◌<◌, ◌∙◌, [], arith}
-use Rattle.race_model.specs.Dice.{number, roll_at}
+use Rattle.race_model.specs.Prelude.{number, roll_at}
 use Rattle.race_model.proofs.Plays.Spent.{number_most}
 use Rattle.least_plays.specs.declared.starts.Start.{Start}
 use Rattle.least_plays.proofs.DicePlaces.{high_at, low_at}
-use Rattle.least_plays.proofs.Rolls.{play_held, double_best, apart_best}
+use Rattle.least_plays.proofs.Rolls.{play_held, better_best}
 use Rattle.least_plays.proofs.starts.Starts.best_play.Goals.{After-from-low}
 use Rattle.least_plays.proofs.starts.Starts.best_play.Goals as goal
 use Rattle.least_plays.proofs.starts.Starts.best_play.Given.{Over}
@@ -33,17 +33,11 @@ bounds-self-high g c = high-few g c
 pub bounds-self-low : goal.bounds-self-low
 bounds-self-low g c = low-few g c
 
-pub bounds-self-high-else-high-low : goal.bounds-self-high-else-high-low
-bounds-self-high-else-high-low g c =
-    high-few g (goal.at.bounds-self-high-else-high-low g c).After-from-low
+pub bounds-self-low-2 : goal.bounds-self-low-2
+bounds-self-low-2 g c = low-few g (goal.at.bounds-self-low-2 g c).After-from-low
 
-pub returns-then-high-low : goal.returns-then-high-low
-unfolding none
-returns-then-high-low g c =
-    let here = (goal.at.returns-then-high-low g c).After-from-low in
-    double_best (g.M.RankedMeans.mean c.args.means.now) (g.M.RankedMeans.count c.args.means.now)
-    c.args.self.now c.requires.starts none (roll_at c.args.index) c.from-high.result
-    c.from-low.result (high g here) (low g here) c.if-high-low.true
+pub bounds-self-high-2 : goal.bounds-self-high-2
+bounds-self-high-2 g c = high-few g (goal.at.bounds-self-high-2 g c).After-from-low
 
 pub better-requires-clause-one : goal.better-requires-clause-one
 unfolding none
@@ -67,7 +61,7 @@ pub returns : goal.returns
 unfolding none
 returns g c =
     let here = (goal.at.returns g c).After-from-low in
-    apart_best (g.M.RankedMeans.mean c.args.means.now) (g.M.RankedMeans.count c.args.means.now)
+    better_best (g.M.RankedMeans.mean c.args.means.now) (g.M.RankedMeans.count c.args.means.now)
     c.args.self.now c.requires.starts none (roll_at c.args.index) c.from-high.result
-    c.from-low.result c.better.result (high g here) (low g here) c.if-high-low.false
+    c.from-low.result c.better.result (high g here) (low g here)
     c.better.ensures.either c.better.ensures.one c.better.ensures.other

@@ -1,24 +1,28 @@
--- One roll more.
-use Rattle.std.proofs.Common.{length-set, refl, ◌∙◌, arith}
-use Rattle.race_model.specs.Dice.{roll_at}
-use Rattle.race_model.specs.BestPlays.{IsBestPlay}
-use Rattle.race_model.proofs.Numbers.Members.{set_next}
+-- Each of the 21 rolls.
+use Rattle.std.proofs.Common.{arith}
+use Rattle.least_plays.proofs.Rolls.{each}
 use Rattle.least_plays.proofs.starts.Starts.best_plays.Goals as goal
 
-pub loop-index-preserved : goal.loop-index-preserved
-loop-index-preserved g c =
-    let mean = g.M.RankedMeans.mean c.args.means.now in
-    let x = c.args.self.now.position in
-    let index = c.loop-index.index in
-    let r = c.best_play.result in
-    record {
-      len = length-set c.loop-index.plays index r ∙ c.loop-index.invariant.len;
-      best =
-          set_next (λ j play. IsBestPlay mean x (roll_at j) play) c.loop-index.plays
-          index index r 0 refl
-          (omega (arith, c.loop-index.invariant.len)) c.loop-index.invariant.best
-          c.best_play.ensures;
-    }
-
 pub returns-clause-best : goal.returns-clause-best
-returns-clause-best g c = λ i lt. c.loop-index.invariant.best i (omega arith)
+returns-clause-best g c =
+    each _ 20 c.best_play.ensures (
+    each _ 19 c.best_play-2.ensures (
+    each _ 18 c.best_play-3.ensures (
+    each _ 17 c.best_play-4.ensures (
+    each _ 16 c.best_play-5.ensures (
+    each _ 15 c.best_play-6.ensures (
+    each _ 14 c.best_play-7.ensures (
+    each _ 13 c.best_play-8.ensures (
+    each _ 12 c.best_play-9.ensures (
+    each _ 11 c.best_play-10.ensures (
+    each _ 10 c.best_play-11.ensures (
+    each _ 9 c.best_play-12.ensures (
+    each _ 8 c.best_play-13.ensures (
+    each _ 7 c.best_play-14.ensures (
+    each _ 6 c.best_play-15.ensures (
+    each _ 5 c.best_play-16.ensures (
+    each _ 4 c.best_play-17.ensures (
+    each _ 3 c.best_play-18.ensures (
+    each _ 2 c.best_play-19.ensures (
+    each _ 1 c.best_play-20.ensures (
+    each _ 0 c.best_play-21.ensures (λ j lt. absurd (omega (arith, lt)))))))))))))))))))))))

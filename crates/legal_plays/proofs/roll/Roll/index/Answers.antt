@@ -1,5 +1,5 @@
 use Rattle.std.proofs.Common.{◌≡◌, ◌+◌, ◌-◌, ◌*◌, ◌/◌, rules}
-use Rattle.race_model.specs.Dice.{IsRoll, roll_index}
+use Rattle.race_model.specs.Prelude.{IsRoll, roll_index}
 use Rattle.legal_plays.proofs.PlayToLemmas.{roll_at_is}
 use Rattle.legal_plays.proofs.roll.Roll.index.Goals as goal
 

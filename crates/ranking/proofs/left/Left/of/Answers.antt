@@ -44,7 +44,7 @@ checkers_before c =
     ∙ c.loop-point.invariant.checkers_at (c.loop-point.point - 1)
     (omega (arith, c.loop-point.invariant.first))
 
--- .. and of pips
+-- the number of pips that is taken from
 pips_before : (c : goal.After-from-count) →
     slice_index c.loop-point.pips (c.from-place.result - 1)
     ≡ pips_left c.args.position.now (c.loop-point.point - 1)

@@ -1,7 +1,6 @@
 use Rattle.std.proofs.Common.{◌≡◌, ℕ, ◌+◌, ◌-◌, ◌<◌, w16, length-set, refl, sym, ap, ◌∙◌, arith}
 use Rattle.std.proofs.Math.Facts.{Fits-of_lt}
-use Rattle.race_model.specs.Positions.{fewer, more}
-use Rattle.race_model.specs.Ranks.{rank}
+use Rattle.race_model.specs.Prelude.{fewer, more, rank}
 use Rattle.race_model.proofs.Numbers.Members.{set_next}
 use Rattle.ranking.specs.Chains.{sum_from, between, above}
 use Rattle.ranking.proofs.Chains.{is_point, above-few, left_above, reached}

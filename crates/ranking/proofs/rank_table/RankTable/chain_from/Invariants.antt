@@ -1,6 +1,5 @@
 use Rattle.std.proofs.Common.{◌≡◌, ℕ, ◌+◌, ◌-◌, ◌<◌, ◌≤◌, length, slice_index}
-use Rattle.race_model.specs.Positions.{fewer, more}
-use Rattle.race_model.specs.Ranks.{rank}
+use Rattle.race_model.specs.Prelude.{fewer, more, rank}
 use Rattle.ranking.specs.Chains.{sum_from, between, above}
 use Rattle.ranking.proofs.rank_table.RankTable.chain_from.Given as goal
 

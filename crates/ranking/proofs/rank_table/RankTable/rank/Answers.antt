@@ -1,6 +1,6 @@
 use Rattle.std.proofs.Common.{◌+◌, w16, get_or, ap, ◌∙◌, arith}
 use Rattle.std.proofs.Math.Facts.{Fits-of_lt}
-use Rattle.race_model.specs.Ranks.{first_of}
+use Rattle.race_model.specs.Prelude.{first_of}
 use Rattle.ranking.proofs.Reading.{IsNext, IsRanked, read_next, rank_read, later-most}
 use Rattle.ranking.proofs.rank_table.RankTable.rank.Goals as goal
 

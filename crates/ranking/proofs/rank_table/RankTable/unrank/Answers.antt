@@ -1,7 +1,6 @@
 use Rattle.std.proofs.Common.{◌≡◌, ℕ, ◌+◌, ◌≤◌, List, get_or, Result, Ok, Err, IfOk, IfSome, ap, subst, sym, ◌∙◌, arith}
 use Rattle.std.specs.Result.{result_ok}
-use Rattle.race_model.specs.Positions.{checkers}
-use Rattle.race_model.specs.Ranks.{rank, at_rank, first_of}
+use Rattle.race_model.specs.Prelude.{checkers, rank, at_rank, first_of}
 use Rattle.race_model.proofs.Ranks.RankOrder.{at_rank_position}
 use Rattle.race_model.proofs.Ranks.PositionTotals.{rank-at_rank}
 use Rattle.ranking.proofs.Counting.{IsCounted, IsStart, start_at, written_start, written_next, written_all}

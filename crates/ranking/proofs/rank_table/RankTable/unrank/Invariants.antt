@@ -1,4 +1,4 @@
-use Rattle.race_model.specs.Ranks.{at_rank}
+use Rattle.race_model.specs.Prelude.{at_rank}
 use Rattle.ranking.proofs.Counting.{IsWritten}
 use Rattle.ranking.proofs.rank_table.RankTable.unrank.Given as goal
 
