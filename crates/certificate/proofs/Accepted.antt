@@ -2,13 +2,9 @@
 use Rattle.std.proofs.Common.{◌≡◌, ℕ, ◌*◌, ◌<◌, ◌≤◌, List, sum, ap, subst, ◌∙◌, arith, le_trans}
 use Rattle.std.specs.List.{range_with_len}
 use Rattle.std.proofs.lemmas.List.Sums.{sum-map}
-use Rattle.race_model.specs.Positions.{Board, IsPosition, pips}
-use Rattle.race_model.specs.Dice.{Throw, roll_index}
-use Rattle.race_model.specs.Ranks.{rank, count_to}
-use Rattle.race_model.specs.Files.{bound_of, record_at, mean_of, play_of, share_of, mean, mean_at}
-use Rattle.race_model.specs.Files.{play, play_at, spread, spread_at}
-use Rattle.race_model.specs.LocalEquations.{whole, recorded, IsPlayed, IsLocalDatabase, IsLocalAt}
-use Rattle.race_model.specs.RightFiles.{IsRightAt}
+use Rattle.race_model.specs.Prelude.{Board, IsPosition, pips, Throw, roll_index, rank, count_to, bound_of, record_at}
+use Rattle.race_model.specs.Prelude.{mean_of, play_of, share_of, mean, mean_at, play, play_at, spread, spread_at, whole}
+use Rattle.race_model.specs.Prelude.{recorded, IsPlayed, IsLocalDatabase, IsLocalAt, IsRightAt}
 use Rattle.race_model.proofs.RightFiles.RightFacts.{shares_add_up}
 use Rattle.race_model.proofs.Strategies.Horizons.{ends_in_22}
 use Rattle.race_model.proofs.RightFiles.Bounded.{mean_at_most}

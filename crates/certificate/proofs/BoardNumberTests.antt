@@ -2,13 +2,9 @@
 use Rattle.std.proofs.Common.{◌≡◌, ◌↔◌, ⊎_elim, ℕ, zero, suc, ◌+◌, ◌-◌, ◌*◌, ◌/◌, ◌%◌, ◌^◌, ◌<◌, ◌≤◌}
 use Rattle.std.proofs.Common.{sym, ap, subst, ◌∙◌, arith}
 use Rattle.std.proofs.lemmas.Bool.{cases_lt}
-use Rattle.race_model.specs.Positions.{Board, IsFinished, pips}
-use Rattle.race_model.specs.Dice.{Throw, roll_at, roll_index, weighted}
-use Rattle.race_model.specs.Ranks.{rank, at_rank}
-use Rattle.race_model.specs.Horizon.{most_rolls}
-use Rattle.race_model.specs.Strategies.{EndsIn}
-use Rattle.race_model.specs.Books.{play_in, recorded_in}
-use Rattle.race_model.specs.BoardFiles.{board_book, mean_parts, count_parts, count_at, value_of_parts}
+use Rattle.race_model.specs.Prelude.{Board, IsFinished, pips, Throw, roll_at, roll_index, weighted, rank, at_rank}
+use Rattle.race_model.specs.Prelude.{most_rolls, EndsIn, play_in, recorded_in, board_book, mean_parts, count_parts}
+use Rattle.race_model.specs.Prelude.{count_at, value_of_parts}
 use Rattle.race_model.proofs.Dice.RollSums.{roll_index-range}
 use Rattle.race_model.proofs.Plays.Results.{legal_position, only_finished}
 use Rattle.race_model.proofs.Ranks.RankOrder.{at_rank-rank}
@@ -77,7 +73,7 @@ module _ {lower : Lower} {x : Board} {stored : Stored} {plays : ℕ → ℕ}
               ),
         )
 
-    -- .. and so are those of a count that is told
+    -- the parts of a count that is told are those of the sums exactly where its equation holds
     pub count-is : (k high low : ℕ) → 1 ≤ k → k ≤ most_rolls (pips x) →
         high * 36 ^ 11 + low ≡ weighted (λ v. count_at lower.bytes (plays (roll_index v)) (k - 1)) →
         (k - 1 < 11 → high ≡ 0) → (11 ≤ k - 1 → low < 36 ^ 11) →

@@ -13,7 +13,7 @@ stays_first d = record {
   cause = λ _ _. rose_nowhere _;
 }
 
--- .. and so do two calls where no read failed in the first
+-- two calls leave it as it is where no read failed in the first
 pub stays_then : {a b c : Database} {One Two : Type 0} → Stays a b One → ¬ One → Stays b c Two
     → Stays a c Two
 stays_then first fine second = record {

@@ -1,18 +1,11 @@
 -- What the tests of the records of a file tell, one after another.
 use Rattle.std.proofs.Common.{◌≡◌, ◌↔◌, ℕ, ◌<◌, ◌≤◌, List, length, take, refl, arith}
-use Rattle.race_model.specs.Positions.{Board, IsPosition, pips}
-use Rattle.race_model.specs.Ranks.{rank, at_rank, count_to}
-use Rattle.race_model.specs.Files.{IsFile, bound_of}
-use Rattle.race_model.specs.Books.{Book}
-use Rattle.race_model.specs.BoardFiles.{IsBoardFile}
-use Rattle.race_model.specs.BoardEquations.{HoldsOnBoard, AsksOnBoard, IsFirstBoardFault}
-use Rattle.race_model.specs.BoardEquations.{IsLocalOnBoard, IsLocalBoard}
-use Rattle.race_model.specs.Headers.{HeaderTest, IsFirstHeaderFault, IsFirstBoardHeaderFault}
-use Rattle.race_model.specs.LocalEquations.{IsLocalAt, IsLocalDatabase}
-use Rattle.race_model.specs.FirstFault.{Test, play_test, least_test, mean_test, spread_test}
-use Rattle.race_model.specs.FirstFault.{rank_of, Holds, Asks, AsksIn, IsFirstFault}
-use Rattle.race_model.specs.FirstFault.{IsFirstFailing, IsFirstInRecord}
-use Rattle.race_model.specs.RightFiles.{IsRightDatabase}
+use Rattle.race_model.specs.Prelude.{Board, IsPosition, pips, rank, at_rank, count_to, IsFile, bound_of, Book}
+use Rattle.race_model.specs.Prelude.{IsBoardFile, HoldsOnBoard, AsksOnBoard, IsFirstBoardFault, IsLocalOnBoard}
+use Rattle.race_model.specs.Prelude.{IsLocalBoard, HeaderTest, IsFirstHeaderFault, IsFirstBoardHeaderFault, IsLocalAt}
+use Rattle.race_model.specs.Prelude.{IsLocalDatabase, Test, play_test, least_test, mean_test, spread_test, rank_of}
+use Rattle.race_model.specs.Prelude.{Holds, Asks, AsksIn, IsFirstFault, IsFirstFailing, IsFirstInRecord}
+use Rattle.race_model.specs.Prelude.{IsRightDatabase}
 use Rattle.race_model.proofs.Dice.Throws.{roll_of_index}
 use Rattle.race_model.proofs.Ranks.RankOrder.{rank_bound, at_rank_position}
 use Rattle.race_model.proofs.Ranks.PositionTotals.{rank-at_rank, count_to-most}
@@ -89,7 +82,8 @@ answers f (least_test r roll) local asks = local.means.best _ (roll_of_index rol
 answers f (mean_test r) local asks = local.means.mean_is
 answers f (spread_test r k) local asks = local.shares k asks.1
 
--- .. and so they are of a board file
+-- where the equations of a position hold, the questions about its record in a board file are
+-- answered yes
 pub board-answers : (f : List ℕ) (u : Test) → IsLocalOnBoard f (at_rank (rank_of u)) →
     AsksOnBoard f u → HoldsOnBoard f u
 board-answers f (play_test r roll) local asks =
@@ -117,7 +111,7 @@ local-of_all f r file all accepted = record {
   at_each = accepted-all (IsLocalAt f) (bound_of f) r all accepted;
 }
 
--- .. and so is a board file
+-- where all records are accepted a board file is locally right
 pub board-of_all : (f : List ℕ) (r : ℕ) → IsBoardFile f → count_to (bound_of f) ≤ r
     → AreAccepted (IsLocalOnBoard f) r → IsLocalBoard f
 board-of_all f r file all accepted =

@@ -1,7 +1,7 @@
 -- The means that are kept, with one more.
 use Rattle.std.proofs.Common.{◌≡◌, ◌≢◌, ⊎_elim, ℕ, ◌+◌, ◌-◌, ◌<◌, ◌≤◌, List, sym, ap, ◌∙◌, arith}
 use Rattle.std.proofs.lemmas.Bool.{cases_lt, lt-ltb, le-ltb}
-use Rattle.race_model.specs.Files.{mean_at}
+use Rattle.race_model.specs.Prelude.{mean_at}
 use Rattle.certificate.specs.KeptMeans.{kept_place, kept_mean}
 
 -- the place of a rank below the room
@@ -9,7 +9,7 @@ kept_place-low : (room r : ℕ) → r < room → kept_place room r ≡ r
 unfolding kept_place
 kept_place-low room r low = rw (lt-ltb r room low)
 
--- .. and of another one
+-- the place of a rank that is not below the room
 kept_place-high : (room r : ℕ) → room ≤ r → kept_place room r ≡ r - room
 unfolding kept_place
 kept_place-high room r high = rw (le-ltb r room high)

@@ -4,14 +4,10 @@ use Rattle.std.proofs.Common.{get_or, sum, refl, sym, ap, ◌∙◌, arith}
 use Rattle.std.specs.List.{range_with_len}
 use Rattle.std.proofs.lemmas.List.Elements.{All-map}
 use Rattle.std.proofs.lemmas.List.Sums.{sum-map}
-use Rattle.race_model.specs.Positions.{Board, IsPosition, IsFinished, checkers}
-use Rattle.race_model.specs.Dice.{Die, number, Throw, all_rolls, weight}
-use Rattle.race_model.specs.Plays.{Step, Run, Legal, in_order, in_reverse, double}
+use Rattle.race_model.specs.Prelude.{Board, IsPosition, IsFinished, checkers, Die, number, Throw, all_rolls, weight}
+use Rattle.race_model.specs.Prelude.{Step, Run, Legal, in_order, in_reverse, double, rank, record_at, share_of, play}
+use Rattle.race_model.specs.Prelude.{spread, spread_at, book_of, recorded, whole, IsPlayed, IsLocalAt, EndsIn}
 use Rattle.race_model.proofs.Plays.Steps.{Change, moved, borne_off, changed}
-use Rattle.race_model.specs.Ranks.{rank}
-use Rattle.race_model.specs.Files.{record_at, share_of, play, spread, spread_at, book_of}
-use Rattle.race_model.specs.LocalEquations.{recorded, whole, IsPlayed, IsLocalAt}
-use Rattle.race_model.specs.Strategies.{EndsIn}
 use Rattle.race_model.proofs.Dice.Throws.{played_by_rolls}
 use Rattle.race_model.proofs.Numbers.Sums.{sum_by-equal, sum_by-equal_within, sum_by-map, sum_by-zero}
 use Rattle.race_model.proofs.Dice.RollSums.{sum_by-weight}

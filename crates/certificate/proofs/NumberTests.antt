@@ -2,11 +2,8 @@
 use Rattle.std.proofs.Common.{◌≡◌, ◌↔◌, ⊎_elim, ℕ, zero, suc, ◌*◌, ◌<◌, ◌≤◌, List, Option, Some, None}
 use Rattle.std.proofs.Common.{sym, ap, subst, ◌∙◌, arith}
 use Rattle.std.proofs.lemmas.Bool.{cases_lt}
-use Rattle.race_model.specs.Positions.{Board, IsPosition}
-use Rattle.race_model.specs.Ranks.{rank, at_rank, count_to}
-use Rattle.race_model.specs.Files.{bound_of, book_of, record_at, mean_of, share_of, mean, spread}
-use Rattle.race_model.specs.FirstFault.{Holds}
-use Rattle.race_model.specs.LocalEquations.{whole, HasMean, HasShare, HasLeastMean, IsLocalAt}
+use Rattle.race_model.specs.Prelude.{Board, IsPosition, rank, at_rank, count_to, bound_of, book_of, record_at, mean_of}
+use Rattle.race_model.specs.Prelude.{share_of, mean, spread, Holds, whole, HasMean, HasShare, HasLeastMean, IsLocalAt}
 use Rattle.race_model.proofs.FirstFaults.Questions.{within_bound}
 use Rattle.race_model.proofs.Ranks.PositionTotals.{rank-at_rank, count_to-most}
 use Rattle.race_model.proofs.Ranks.RankOrder.{rank_apart}

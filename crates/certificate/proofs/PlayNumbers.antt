@@ -1,13 +1,9 @@
 -- What the record of a play can hold, where each record of lower rank was accepted.
 use Rattle.std.proofs.Common.{◌≡◌, ℕ, zero, suc, ◌+◌, ◌*◌, ◌<◌, ◌≤◌, List}
 use Rattle.std.proofs.Common.{get_or, slice_index, sum, subst, ◌∙◌, arith}
-use Rattle.race_model.specs.Positions.{Board, IsPosition, IsFinished, checkers, pips}
-use Rattle.race_model.specs.Dice.{Throw, roll_at}
-use Rattle.race_model.specs.Ranks.{rank}
-use Rattle.race_model.specs.Files.{book_of, record_at, mean_at, play, spread, spread_at}
-use Rattle.race_model.specs.Horizon.{most_rolls}
-use Rattle.race_model.specs.Strategies.{EndsIn}
-use Rattle.race_model.specs.LocalEquations.{recorded, whole, IsPlayed, IsLocalAt}
+use Rattle.race_model.specs.Prelude.{Board, IsPosition, IsFinished, checkers, pips, Throw, roll_at, rank, book_of}
+use Rattle.race_model.specs.Prelude.{record_at, mean_at, play, spread, spread_at, most_rolls, EndsIn, recorded, whole}
+use Rattle.race_model.specs.Prelude.{IsPlayed, IsLocalAt}
 use Rattle.race_model.proofs.Plays.Results.{legal_position, legal_pips}
 use Rattle.race_model.proofs.Strategies.Horizons.{ends_in_22, ends_in_most}
 use Rattle.race_model.proofs.RightFiles.Bounded.{recorded_lower, mean_at_most}
@@ -47,7 +43,7 @@ module _ (f : List ℕ) (x : Board) (at : IsPosition x) (short : pips x ≤ 58)
       (shares_whole f 22 (recorded f x v) (omega arith)
       (ends_in_22 (recorded f x v) after_is after_short) after_is after_meets)
 
-  -- .. of which none is at as many rolls as the position can need at most
+  -- none of its shares is at as many rolls as the position can need at most
   pub play-beyond : (k : ℕ) → most_rolls (pips x) ≤ k → k < 23 → spread_at f (play f x v) k ≡ 0
   play-beyond k beyond few =
       subst (λ r. spread_at f r k ≡ 0) played.ranked
@@ -59,7 +55,7 @@ module _ (f : List ℕ) (x : Board) (at : IsPosition x) (short : pips x ≤ 58)
           count_of-beyond f n (recorded f x v) (ends unfinished v (recorded f x v) played.legal)
           after_is after_meets k (omega arith) (omega arith)
 
-  -- .. or at so few that not all checkers can be off
+  -- none of its shares is at so few rolls that not all checkers can be off
   pub play-before : (k : ℕ) → 4 * k + 4 < checkers x → k < 23 → spread_at f (play f x v) k ≡ 0
   play-before k less few =
       subst (λ r. spread_at f r k ≡ 0) played.ranked

@@ -6,7 +6,7 @@ use Rattle.std.proofs.lemmas.Bool.{cases_lt, false≢true}
 use Rattle.std.proofs.lemmas.List.{get_or_past, length-map}
 use Rattle.std.proofs.lemmas.List.FromFn.{get_or-map-range_with_len}
 use Rattle.std.specs.List.{range_with_len}
-use Rattle.race_model.specs.Files.{record_at, share_of}
+use Rattle.race_model.specs.Prelude.{record_at, share_of}
 use Rattle.db_layout.specs.StoredShares.{share_by}
 use Rattle.db_layout.specs.declared.stored_shares.StoredShares.{StoredShares}
 use Rattle.db_reader.specs.Telling.{WhereTold}

@@ -5,7 +5,7 @@ use Rattle.std.specs.List.{range_with_len}
 use Rattle.std.proofs.lemmas.Grind.{same_number_lists}
 use Rattle.std.proofs.lemmas.List.{length-map}
 use Rattle.std.proofs.lemmas.List.FromFn.{get_or-map-range_with_len}
-use Rattle.race_model.specs.Files.{record_at, mean_of, play_of, share_of, mean_at, play_at, spread_at}
+use Rattle.race_model.specs.Prelude.{record_at, mean_of, play_of, share_of, mean_at, play_at, spread_at}
 use Rattle.certificate.specs.RecordNumbers.{plays_of, shares_of}
 
 pub mean-of_record : (f : List ℕ) (r : ℕ) → mean_of (record_at f r) ≡ mean_at f r
@@ -27,7 +27,7 @@ unfolding plays_of
 get_or-plays_of bytes i lt =
     get_or-map-range_with_len (play_of bytes) 0 21 i i 0 (omega arith) (omega arith)
 
--- .. of which there are 21
+-- there are 21 plays in the bytes of a record
 pub length-plays_of : (bytes : List ℕ) → length (plays_of bytes) ≡ 21
 unfolding plays_of
 length-plays_of bytes = length-map (range_with_len 0 21) (play_of bytes)

@@ -1,14 +1,10 @@
 -- What the tests of a record tell, of any kind of file: by its book, and by what holds where a
 -- question about it is answered yes.
 use Rattle.std.proofs.Common.{◌≡◌, ◌↔◌, ℕ, suc, ◌*◌, ◌<◌, ◌≤◌, refl, ap, subst, ◌∙◌, arith}
-use Rattle.race_model.specs.Positions.{Board, IsPosition, IsFinished}
-use Rattle.race_model.specs.Dice.{Throw, all_rolls, roll_at, roll_index, weight, weighted}
-use Rattle.race_model.specs.Plays.{Legal}
-use Rattle.race_model.specs.Ranks.{rank, at_rank, count_to}
-use Rattle.race_model.specs.Books.{Book, play_in, IsPlayedIn}
-use Rattle.race_model.specs.LocalEquations.{IsBestIn, HasMeanOver, HasLeastMeanOver}
-use Rattle.race_model.specs.FirstFault.{Test, play_test, least_test, mean_test, spread_test}
-use Rattle.race_model.specs.FirstFault.{AsksIn, IsFirstInRecord}
+use Rattle.race_model.specs.Prelude.{Board, IsPosition, IsFinished, Throw, all_rolls, roll_at, roll_index, weight}
+use Rattle.race_model.specs.Prelude.{weighted, Legal, rank, at_rank, count_to, Book, play_in, IsPlayedIn, IsBestIn}
+use Rattle.race_model.specs.Prelude.{HasMeanOver, HasLeastMeanOver, Test, play_test, least_test, mean_test, spread_test}
+use Rattle.race_model.specs.Prelude.{AsksIn, IsFirstInRecord}
 use Rattle.race_model.proofs.Dice.RollSums.{roll_index-range}
 use Rattle.race_model.proofs.Dice.Throws.{by_index, roll_of_index}
 use Rattle.race_model.proofs.FirstFaults.InRecord.{PlaysHold, before_play, before_share}
@@ -28,7 +24,7 @@ module _ (b : Book) where
   abbrev pub ArePlays : Board → Type 0
   ArePlays x = (i : ℕ) → i < 21 → IsPlayedIn b x (roll_at i) × IsBestIn b x (roll_at i)
 
-  -- .. so with that of the mean the first three do
+  -- with the mean equation the first three hold
   pub least-mean : (over : ℕ) (x : Board) → ArePlays x → HasMeanOver over b x →
       HasLeastMeanOver over b x
   least-mean over x plays mean = record {
@@ -46,14 +42,14 @@ module _ (b : Book) where
         read i (roll_index-range v)
         ∙ ap (b.plays (rank x)) (roll_of_index i (roll_index-range v)).1
 
-    -- .. so a sum over them is one over the book's
+    -- a sum over the plays that are read is one over the book's
     pub sum-is : (g : ℕ → ℕ) →
         weighted (λ v. g (plays (roll_index v))) ≡ weighted (λ v. g (play_in b x v))
     sum-is g =
         sum_by-equal (λ v. weight v * g (plays (roll_index v)))
         (λ v. weight v * g (play_in b x v)) all_rolls (λ v. ap (λ r. weight v * g r) (play-is v))
 
-    -- .. and the tests of the plays tell of the book
+    -- the tests of the plays tell of the book
     module _ (at : IsPosition x) (mean : ℕ → ℕ)
         (agree : ¬ IsFinished x → (v : Throw) (z : Board) → Legal x v z →
         mean (rank z) ≡ b.means (rank z)) where

@@ -1,19 +1,11 @@
 -- The upgrade of an accepted file: its records hold what those of the file hold.
-use Rattle.std.proofs.Common.{◌≡◌, ⊎_elim, ℕ, zero, suc, ◌*◌, ◌^◌, ◌<◌, ◌≤◌, List, Option}
-use Rattle.std.proofs.Common.{get_or, sum, refl, sym, ap, subst, ◌∙◌, arith, le_trans, cond, leb}
-use Rattle.std.specs.Prelude.{slice_index}
+use Rattle.std.proofs.Common.{◌≡◌, ⊎_elim, ℕ, zero, suc, ◌*◌, ◌^◌, ◌<◌, ◌≤◌, List, Option, get_or, sum, refl, sym, ap}
+use Rattle.std.proofs.Common.{subst, ◌∙◌, arith, le_trans, cond, leb, slice_index}
 use Rattle.std.proofs.lemmas.List.{get_or_past}
 use Rattle.std.proofs.lemmas.Bool.{cases_lt}
-use Rattle.race_model.specs.Positions.{Board, IsPosition, pips}
-use Rattle.race_model.specs.Dice.{roll_at, roll_index}
-use Rattle.race_model.specs.Ranks.{rank, at_rank, count_to}
-use Rattle.race_model.specs.Horizon.{most_rolls}
-use Rattle.race_model.specs.Versions.{Version, full, compact}
-use Rattle.race_model.specs.Files.{record_at, mean_of, play_of, mean_at, play_at, spread_at, bound_of}
-use Rattle.race_model.specs.LocalEquations.{whole, IsLocalDatabase}
-use Rattle.race_model.specs.ToldShares.{told_share}
-use Rattle.race_model.specs.SameNumbers.{HasSameNumbers}
-use Rattle.race_model.specs.Upgrades.{IsUpgrade}
+use Rattle.race_model.specs.Prelude.{Board, IsPosition, pips, roll_at, roll_index, rank, at_rank, count_to, most_rolls}
+use Rattle.race_model.specs.Prelude.{Version, full, compact, record_at, mean_of, play_of, mean_at, play_at, spread_at}
+use Rattle.race_model.specs.Prelude.{bound_of, whole, IsLocalDatabase, told_share, HasSameNumbers, IsUpgrade}
 use Rattle.race_model.proofs.Dice.Throws.{roll_of_index}
 use Rattle.race_model.proofs.Dice.RollSums.{roll_index-range}
 use Rattle.race_model.proofs.FirstFaults.Questions.{within_bound}

@@ -1,8 +1,6 @@
 -- What is kept of a table that was accepted.
 use Rattle.std.specs.Prelude.{◌≡◌, ℕ, List, Option, Some, None}
-use Rattle.race_model.specs.Versions.{Version, full, version_by}
-use Rattle.race_model.specs.Files.{version_of, bound_of}
-use Rattle.race_model.specs.LocalEquations.{IsLocalDatabase}
+use Rattle.race_model.specs.Prelude.{Version, full, version_by, version_of, bound_of, IsLocalDatabase}
 use Rattle.db_layout.specs.declared.header.Header.{Header}
 use Rattle.db_reader.specs.Telling.{WhereTold}
 

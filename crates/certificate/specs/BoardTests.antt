@@ -1,13 +1,7 @@
 -- What is tested of the record of a position, by what its plays lead to.
 use Rattle.std.specs.Prelude.{◌≡◌, ℕ, ◌<◌, List}
-use Rattle.race_model.specs.Positions.{Board, IsPosition, pips}
-use Rattle.race_model.specs.Ranks.{rank}
-use Rattle.race_model.specs.Dice.{roll_at}
-use Rattle.race_model.specs.Books.{IsPlayedIn, play_in}
-use Rattle.race_model.specs.LocalEquations.{IsBestIn, HasMeanIn}
-use Rattle.race_model.specs.Endings.{HasCountIn}
-use Rattle.race_model.specs.BoardFiles.{board_book, board_record, count_at}
-use Rattle.race_model.specs.WrittenNumbers.{IsMeanWritten, IsCountWritten}
+use Rattle.race_model.specs.Prelude.{Board, IsPosition, pips, rank, roll_at, IsPlayedIn, play_in, IsBestIn, HasMeanIn}
+use Rattle.race_model.specs.Prelude.{HasCountIn, board_book, board_record, count_at, IsMeanWritten, IsCountWritten}
 use Rattle.db_layout.specs.BoardRecords.{Stored}
 use Rattle.db_layout.specs.LowerRecords.{Lower, AreLocalTo}
 
@@ -19,7 +13,7 @@ Holds f x i = IsPlayedIn (board_book f) x (roll_at i) × IsBestIn (board_book f)
 abbrev pub MeanHolds : List ℕ → Board → Type 0
 MeanHolds f x = IsMeanWritten f x × HasMeanIn (board_book f) x
 
--- .. and so for its count of k throws
+-- the count of k throws of a position is written, and its equation holds
 abbrev pub CountHolds : List ℕ → Board → ℕ → Type 0
 CountHolds f x k = IsCountWritten f x k × HasCountIn (board_book f) (count_at f) x k
 

@@ -1,12 +1,8 @@
 -- What a refusal of the checker means: the first fault of the file, in the checker's order.
 use Rattle.std.specs.Prelude.{ℕ, List, length, take}
-use Rattle.race_model.specs.Files.{IsFile}
-use Rattle.race_model.specs.BoardFiles.{IsBoardFile}
-use Rattle.race_model.specs.Headers.{HeaderTest, IsFirstHeaderFault, IsFirstBoardHeaderFault}
-use Rattle.race_model.specs.FirstFault.{Test, play_test, least_test, mean_test, spread_test}
-use Rattle.race_model.specs.FirstFault.{Asks, IsFirstFault}
-use Rattle.race_model.specs.BoardEquations.{IsFirstBoardFault}
-use Rattle.race_model.specs.FaultLines.{header_line, test_line, read_line}
+use Rattle.race_model.specs.Prelude.{IsFile, IsBoardFile, HeaderTest, IsFirstHeaderFault, IsFirstBoardHeaderFault, Test}
+use Rattle.race_model.specs.Prelude.{play_test, least_test, mean_test, spread_test, Asks, IsFirstFault}
+use Rattle.race_model.specs.Prelude.{IsFirstBoardFault, header_line, test_line, read_line}
 use Rattle.db_layout.specs.HeaderFaults.{test_of}
 use Rattle.certificate.specs.declared.check_fault.CheckFault.{CheckFault}
 use Rattle.certificate.specs.declared.check_fault.CheckFault.TheVariants.{Header, Play, NotLeast, Mean, Spread, Read}
@@ -31,7 +27,7 @@ IsFirst f =
     Says (IsFirstHeaderFault (take 32 f) (length f))
     (λ test. IsFile f × IsFirstFault (Asks f) f test) (Unit {0})
 
--- .. and of a board file, which lies in memory, so that no read fails
+-- the fault is the first of a board file, which lies in memory, so that no read fails
 abbrev pub IsFirstOnBoard : List ℕ → CheckFault → Type 0
 IsFirstOnBoard f =
     Says (IsFirstBoardHeaderFault f) (λ test. IsBoardFile f × IsFirstBoardFault f test) ⊥

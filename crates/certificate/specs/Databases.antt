@@ -1,6 +1,6 @@
 -- What clauses see of an accepted database, and what a call leaves of it.
 use Rattle.std.specs.Prelude.{◌≡◌, ℕ, List, Option}
-use Rattle.race_model.specs.Versions.{Version}
+use Rattle.race_model.specs.Prelude.{Version}
 use Rattle.db_reader.specs.Telling.{WhereTold, RoseWhere}
 
 -- its bytes, where they are told; the bound and the version of its header; how often a read failed

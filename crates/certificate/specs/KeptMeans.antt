@@ -1,7 +1,6 @@
--- Where the means of the last ranks are kept. Source: this project's profile.
+-- Where the means of the last ranks are kept.
 use Rattle.std.specs.Prelude.{ℕ, ◌+◌, ◌-◌, ◌<◌, nat_lt, if◌then◌else◌, List, slice_index}
-use Rattle.race_model.specs.Positions.{Board, IsPosition, pips}
-use Rattle.race_model.specs.Ranks.{rank, count_to}
+use Rattle.race_model.specs.Prelude.{Board, IsPosition, pips, rank, count_to}
 
 -- the place of a rank: those from the room on have places again from the first one on
 unfoldable pub kept_place : ℕ → ℕ → ℕ

@@ -1,6 +1,6 @@
 -- What the checker keeps of the records of lower rank.
 use Rattle.std.specs.Prelude.{◌≡◌, ℕ, ◌+◌, ◌<◌, ◌≤◌, List, Option}
-use Rattle.race_model.specs.Files.{mean_at}
+use Rattle.race_model.specs.Prelude.{mean_at}
 use Rattle.least_plays.specs.Known.{Knows}
 use Rattle.db_reader.specs.Telling.{WhereTold}
 use Rattle.certificate.specs.KeptMeans.{kept_mean}

@@ -1,9 +1,7 @@
 -- The sums of the records that the 21 rolls lead to.
 use Rattle.std.specs.Prelude.{◌≡◌, ℕ, ◌*◌, ◌<◌, ◌≤◌, List, map, slice_index, sum}
 use Rattle.std.specs.List.{range_with_len}
-use Rattle.race_model.specs.Dice.{roll_index, weighted}
-use Rattle.race_model.specs.Files.{mean_of, mean_at, spread_at}
-use Rattle.race_model.specs.LocalEquations.{whole}
+use Rattle.race_model.specs.Prelude.{roll_index, weighted, mean_of, mean_at, spread_at, whole}
 use Rattle.db_layout.specs.StoredShares.{share_by}
 use Rattle.db_layout.specs.declared.stored_shares.StoredShares.{StoredShares}
 use Rattle.fixed_fraction.specs.Totals.{Totals}

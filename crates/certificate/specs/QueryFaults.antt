@@ -10,7 +10,7 @@ RefusesNumbers NotLegal = ⊥
 RefusesNumbers Memory = ⊥
 RefusesNumbers Read = Unit {0}
 
--- .. and where a play is
+-- the faults that can come where a play is asked for
 abbrev pub RefusesPlays : QueryFault → Type 0
 RefusesPlays OverBound = Unit {0}
 RefusesPlays Finished = Unit {0}

@@ -1,11 +1,7 @@
 -- What a fault of a record means.
 use Rattle.std.specs.Prelude.{ℕ, List}
-use Rattle.race_model.specs.Books.{Book}
-use Rattle.race_model.specs.Files.{book_of}
-use Rattle.race_model.specs.BoardFiles.{board_book}
-use Rattle.race_model.specs.BoardEquations.{HoldsOnBoard}
-use Rattle.race_model.specs.FirstFault.{Test, play_test, least_test, mean_test, spread_test}
-use Rattle.race_model.specs.FirstFault.{Holds, AsksIn, IsFirstInRecord}
+use Rattle.race_model.specs.Prelude.{Book, book_of, board_book, HoldsOnBoard, Test, play_test, least_test, mean_test}
+use Rattle.race_model.specs.Prelude.{spread_test, Holds, AsksIn, IsFirstInRecord}
 use Rattle.certificate.specs.RecordNumbers.{IsFirstWrong}
 use Rattle.least_plays.specs.declared.recorded.PlayFault.{PlayFault}
 use Rattle.least_plays.specs.declared.recorded.PlayFault.TheVariants.{NotLegal, NotLeast as NotLeastPlay}
@@ -26,7 +22,8 @@ IsFirstFaultIn b holds unread r Read = unread
 abbrev pub IsFirstFaultAt : List ℕ → ℕ → RecordFault → Type 0
 IsFirstFaultAt f = IsFirstFaultIn (book_of f) (Holds f) (Unit {0})
 
--- .. and of a board file, which lies in memory, so that no read fails
+-- the fault is the first of the record of a rank of a board file, which lies in memory, so that no
+-- read fails
 abbrev pub IsFirstFaultOnBoardAt : List ℕ → ℕ → RecordFault → Type 0
 IsFirstFaultOnBoardAt f = IsFirstFaultIn (board_book f) (HoldsOnBoard f) ⊥
 

@@ -1,11 +1,7 @@
--- What an upgrade writes. Source: this project's profile.
+-- What an upgrade writes.
 use Rattle.std.specs.Prelude.{ℕ, List, Option}
 use Rattle.std.specs.Io.KnownBytes.{Appends, Keeps}
-use Rattle.race_model.specs.Positions.{pips}
-use Rattle.race_model.specs.Ranks.{at_rank}
-use Rattle.race_model.specs.Versions.{compact}
-use Rattle.race_model.specs.Files.{record_at, mean_of}
-use Rattle.race_model.specs.Upgrades.{IsUpgrade}
+use Rattle.race_model.specs.Prelude.{pips, at_rank, compact, record_at, mean_of, IsUpgrade}
 use Rattle.db_layout.specs.Records.{record_of}
 use Rattle.db_layout.specs.Writes.{AppendsPart}
 use Rattle.certificate.specs.RecordNumbers.{plays_of, shares_of}

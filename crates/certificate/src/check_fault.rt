@@ -15,8 +15,8 @@ pub enum CheckFault {
     #[error("the header has a fault")]
     Header(HeaderFault),
 
-    /// What is recorded for a position, by its rank, and a roll, by its index, is no rank of a
-    /// position that the roll leads to.
+    /// The roll can't lead to the recorded rank. The position is given by its rank, the roll by
+    /// its index.
     #[error("rank {rank}, roll {roll}: no legal play")]
     Play { rank: u16, roll: u8 },
 
@@ -24,8 +24,8 @@ pub enum CheckFault {
     #[error("rank {rank}, roll {roll}: not the least mean")]
     NotLeast { rank: u16, roll: u8 },
 
-    /// The recorded mean is not one roll and the weighted mean of what is recorded, or not 0 for
-    /// the finished position; or that of a board file is not written in the one way.
+    /// The recorded mean is wrong: not one roll plus the weighted mean after the recorded plays,
+    /// or not 0 for the finished position; or that of a board file is not written in the one way.
     #[error("rank {rank}: the mean")]
     Mean { rank: u16 },
 
@@ -34,8 +34,8 @@ pub enum CheckFault {
     #[error("rank {rank}, {k} rolls: the share")]
     Spread { rank: u16, k: u8 },
 
-    /// The table could not be read, or a record that is read again holds what no accepted record
-    /// can hold. A board file lies in memory, and has no such fault.
+    /// The table could not be read. Also if a record that is read again holds what no accepted
+    /// record can hold. A board file lies in memory, and has no such fault.
     #[error("the table could not be read")]
     Read,
 }

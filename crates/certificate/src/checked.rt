@@ -1,15 +1,9 @@
 //! The checker's verdict, and an accepted table with its answers.
 ghost use Rattle.std.specs.Prelude.{◌≡◌, ℕ, ◌<◌, ◌≤◌, ◌↔◌, Err, slice_index, IsOk, IfOk, IfErr, IsTrue, OnOk};
-ghost use Rattle.race_model.specs.Positions.{IsPosition, IsFinished, pips};
-ghost use Rattle.race_model.specs.Plays.{Legal};
-ghost use Rattle.race_model.specs.Ranks.{rank as rank_of, count_to};
-ghost use Rattle.race_model.specs.Versions.{compact, version_number};
-ghost use Rattle.race_model.specs.Files.{version_of, bound_of, mean as mean_of, spread as share_of};
-ghost use Rattle.race_model.specs.LocalEquations.{recorded, IsLocalDatabase};
-ghost use Rattle.race_model.specs.RightFiles.{IsRight, IsRightBoard, IsRightDatabase, follow};
-ghost use Rattle.race_model.specs.Fractions.{IsMean, IsEffectivePips};
-ghost use Rattle.race_model.specs.Strategies.{IsLeast, count_of};
-ghost use Rattle.race_model.specs.FirstPlays.{IsFirstPlay};
+ghost use Rattle.race_model.specs.Prelude.{IsPosition, IsFinished, pips, Legal, rank as rank_of, count_to, compact};
+ghost use Rattle.race_model.specs.Prelude.{version_number, version_of, bound_of, mean as mean_of, spread as share_of};
+ghost use Rattle.race_model.specs.Prelude.{recorded, IsLocalDatabase, IsRight, IsRightBoard, IsRightDatabase, follow};
+ghost use Rattle.race_model.specs.Prelude.{IsMean, IsEffectivePips, IsLeast, count_of, IsFirstPlay};
 ghost use Rattle.legal_plays.specs.MoveLists.{moves_of};
 ghost use Rattle.db_layout.specs.Records.{IsVersion};
 ghost use Rattle.db_reader.specs.Telling.{WhereTold, RoseWhere};
@@ -55,7 +49,7 @@ pub struct Checked<T: Table> {
 
 // Clauses see its bytes, its bound and version, and how often a read has failed.
 impl<T: Table> Model for Checked<T> {
-    ghost use Rattle.race_model.specs.Versions.{version_by};
+    ghost use Rattle.race_model.specs.Prelude.{version_by};
     ghost use Rattle.certificate.specs.Databases.{Database};
     ghost use Rattle.certificate.specs.Accepted.{HasAccepted};
 
@@ -151,8 +145,8 @@ impl<T: Table> Checked<T> {
         table
     }
 
-    /// The least mean number of rolls of a position over all strategies, also those that look at
-    /// the history, as a numerator over 36 ^ 22. Refused as `OverBound` exactly where the
+    /// The minimum expected number of rolls, as a numerator over 36 ^ 22. It is the minimum over
+    /// all strategies, including history-dependent ones. Refused as `OverBound` exactly where the
     /// position has more pips than the bound, or as `Read`.
     pub fn scaled(&mut self, position: &Position) -> Result<Scaled, QueryFault>
         ensures over_bound { (result ≡ Err QueryFault.OverBound) ↔
@@ -177,8 +171,8 @@ impl<T: Table> Checked<T> {
         Ok(mean)
     }
 
-    /// The least mean number of rolls of a position over all strategies, as a fraction in lowest
-    /// terms. Refused as `scaled` is.
+    /// The minimum expected number of rolls over all strategies, in lowest terms. Refused as
+    /// `scaled` is.
     pub fn mean(&mut self, position: &Position) -> Result<Fraction, QueryFault>
         ensures over_bound { (result ≡ Err QueryFault.OverBound) ↔
             (self.old.bound < pips position.now) }
@@ -274,7 +268,7 @@ impl<T: Table> Checked<T> {
         Ok((play, to))
     }
 
-    /// Writes the database as a file of version 2, which has the same bound, means, plays and
+    /// Writes the database as a file of version 2. The file has the same bound, means, plays and
     /// shares, and so the same reply to each line (`law_upgrade`). The plays are the recorded
     /// ones, also where the builder would record others. Refused as `NotOld` exactly where the
     /// file is of version 2: nothing was written; else as `Read`, or as `Write` where a `write`

@@ -1,10 +1,7 @@
 //! The check of all records of a table, or of a board file, by rising rank.
 ghost use Rattle.std.specs.Prelude.{◌≡◌, ℕ, ◌+◌, ◌<◌, ◌≤◌, List, Some, Err, IfOk, IfErr, OnOk};
-ghost use Rattle.race_model.specs.Versions.{version_by};
-ghost use Rattle.race_model.specs.Files.{version_of, bound_of};
-ghost use Rattle.race_model.specs.BoardFiles.{IsBoardFile};
-ghost use Rattle.race_model.specs.LocalEquations.{IsLocalDatabase};
-ghost use Rattle.race_model.specs.BoardEquations.{IsLocalBoard};
+ghost use Rattle.race_model.specs.Prelude.{version_by, version_of, bound_of, IsBoardFile, IsLocalDatabase};
+ghost use Rattle.race_model.specs.Prelude.{IsLocalBoard};
 ghost use Rattle.least_plays.specs.Known.{HasRows};
 ghost use Rattle.db_reader.specs.Telling.{WhereTold, RoseWhere};
 ghost use Rattle.db_reader.specs.TableStays.{TableStays};
@@ -17,6 +14,7 @@ use crate::kept::LowerRecords;
 use crate::record_check::{check_board_record, check_record};
 use db_layout::{BOARD_VERSION, BoardHeader, BoardRecord, Header, Kind, RecordStarts};
 use db_reader::{Record, Table, TableFault};
+use fixed_fraction::Sums;
 use least_plays::{LeastPlays, ROWS_TO_8, ROWS_TO_90};
 use ranking::Ranks;
 use std::array;
@@ -65,8 +63,8 @@ pub fn check_records<T: Table>(table: &mut T, ranks: &Ranks) -> Result<Header, C
     }
 }
 
-/// The same, where the table has accepted this header, with room for the means of so many ranks,
-/// and with so many rows for the best plays.
+/// Checks the records of a table that has accepted this header. There is room for the means of
+/// `ROOM` ranks, and `ROWS` rows for the best plays.
 // so that its room is on the stack while it checks, and not while the header is read or its
 // caller goes on
 #[inline(never)]
@@ -91,9 +89,10 @@ fn check_with_room<T: Table, const ROOM: usize, const ROWS: usize>(
     let mut lower: LowerRecords<ROOM, ROWS> = LowerRecords::new();
     let mut own = Record::new();
     let mut rooms = array::from_fn(|_| Record::new());
+    let mut sums = Sums::finished();
     for rank in 0..header.count {
         if let Err(fault) = check_record(
-            table, ranks, header, rank, &mut lower, &mut own, &mut rooms,
+            table, ranks, header, rank, &mut lower, &mut own, &mut rooms, &mut sums,
         ) {
             return Err(fault_at(rank, fault));
         }

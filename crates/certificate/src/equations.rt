@@ -1,12 +1,10 @@
 //! The numbers of a record, tested one after another: those of a database by the sums of what is
 //! recorded for the rolls, and those of a board file by what the plays lead to.
-ghost use Rattle.std.specs.Prelude.{◌≡◌, ℕ, ◌+◌, ◌≤◌, ◌↔◌, slice_index, IsTrue, IfErr, OnOk};
-ghost use Rattle.race_model.specs.Positions.{IsFinished, pips};
-ghost use Rattle.race_model.specs.Horizon.{most_rolls};
-ghost use Rattle.race_model.specs.Files.{mean_of, share_of};
+ghost use Rattle.std.specs.Prelude.{◌≡◌, ℕ, ◌+◌, ◌<◌, ◌≤◌, ◌↔◌, slice_index, IsTrue, IfErr, OnOk};
+ghost use Rattle.race_model.specs.Prelude.{IsFinished, pips, most_rolls, mean_of, share_of};
 ghost use Rattle.db_layout.specs.BoardWords.{AreWordSums};
 ghost use Rattle.certificate.specs.BoardTests.{IsTested, MeanHolds, CountHolds};
-ghost use Rattle.certificate.specs.RecordNumbers.{IsMeanOf, IsShareOf};
+ghost use Rattle.certificate.specs.RecordNumbers.{IsMeanOf, IsShareOf, sums_if};
 ghost use Rattle.certificate.specs.RecordFaults.{IsNumberFault};
 
 use crate::check_fault::RecordFault;
@@ -25,7 +23,7 @@ pub trait Numbers {
     // the mean holds
     ghost IsMean: { Self → Type 0 };
 
-    // .. and so does the number of exactly so many throws
+    // the number of exactly so many throws holds
     ghost IsNumber: { Self → ℕ → Type 0 };
 
     /// From so many throws on each number holds.
@@ -58,7 +56,25 @@ pub fn check_numbers<N: Numbers>(numbers: &N) -> Result<(), RecordFault>
     if !numbers.has_mean() {
         return Err(RecordFault::Mean);
     }
-    for k in 0..numbers.end() {
+    let end = numbers.end();
+    check_between(numbers, 0, end.min(12))?;
+    check_between(numbers, 12, end.min(23))?;
+    check_between(numbers, 23, end)
+}
+
+/// Tests the numbers from `from` throws on, before `to`. Those of fewer hold.
+// by ranges, which decide how a count is made and where it stands
+#[inline(always)]
+fn check_between<N: Numbers>(numbers: &N, from: u8, to: u8) -> Result<(), RecordFault>
+    requires ready { N.IsReady numbers.now }
+    requires mean { N.IsMean numbers.now }
+    requires few { to ≤ N.most + 1 }
+    requires fewer { (k : ℕ) → k < from → k < to → N.IsNumber numbers.now k }
+    ensures each { OnOk result ((k : ℕ) → k < to → N.IsNumber numbers.now k) }
+    ensures fault { IfErr result
+        (IsNumberFault (N.IsMean numbers.now) (N.IsNumber numbers.now) N.most) }
+{
+    for k in from..to {
         if !numbers.has_number(k) {
             return Err(RecordFault::Spread { k });
         }
@@ -66,12 +82,13 @@ pub fn check_numbers<N: Numbers>(numbers: &N) -> Result<(), RecordFault>
     Ok(())
 }
 
-/// The numbers of a record of a database, and the sums of what is recorded for its rolls, or none
-/// for the finished position.
+/// A database record with the sums after its recorded plays, unless it is that of the finished
+/// position, which has none.
 #[derive(Drop)]
 pub struct SummedRecord<'a> {
     pub view: &'a RecordView<'a>,
-    pub sums: &'a Option<Sums>,
+    pub sums: &'a Sums,
+    pub has_sums: bool,
 }
 
 impl<'a> Numbers for SummedRecord<'a> {
@@ -79,9 +96,11 @@ impl<'a> Numbers for SummedRecord<'a> {
 
     ghost most = { 22 };
 
-    ghost IsMean = { λ numbers. IsMeanOf (mean_of numbers.view.now) numbers.sums.now };
+    ghost IsMean = { λ numbers.
+        IsMeanOf (mean_of numbers.view.now) (sums_if numbers.has_sums numbers.sums.now) };
 
-    ghost IsNumber = { λ numbers. IsShareOf (share_of numbers.view.now) numbers.sums.now };
+    ghost IsNumber = { λ numbers.
+        IsShareOf (share_of numbers.view.now) (sums_if numbers.has_sums numbers.sums.now) };
 
     fn end(&self) -> u8 {
         23
@@ -89,25 +108,26 @@ impl<'a> Numbers for SummedRecord<'a> {
 
     fn has_mean(&self) -> bool {
         let stored = self.view.mean();
-        match self.sums {
-            Some(sums) => sums.is_mean(stored),
-            None => stored == 0,
+        if self.has_sums {
+            self.sums.is_mean(stored)
+        } else {
+            stored == 0
         }
     }
 
     #[tactic(auto, unfolding(race_model::specs::LocalEquations::whole))]
     fn has_number(&self, k: u8) -> bool {
         let stored = self.view.spread(k);
-        match self.sums {
-            Some(_) if k == 0 => stored == 0,
-            Some(sums) => sums.is_later_share(k - 1, stored),
-            None if k == 0 => stored == WHOLE,
-            None => stored == 0,
+        match k {
+            0 if self.has_sums => stored == 0,
+            0 => stored == WHOLE,
+            _ if self.has_sums => self.sums.is_later_share(k - 1, stored),
+            _ => stored == 0,
         }
     }
 }
 
-/// The numbers of a record of a board file whose plays hold, and the words of what these lead to.
+/// A board file's record with correct plays, and the sums after them.
 #[derive(Drop)]
 pub struct PlayedRecord<'a> {
     pub lower: &'a LowerRecords<'a>,

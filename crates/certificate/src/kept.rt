@@ -1,10 +1,7 @@
 //! What is kept of the records of lower rank, so that the best plays of a position are found
 //! without a look at these records.
-ghost use Rattle.std.specs.Prelude.{◌≡◌, ◌≢◌, ℕ, ◌+◌, ◌<◌, ◌≤◌, length, slice_index};
-ghost use Rattle.race_model.specs.Positions.{IsPosition, pips};
-ghost use Rattle.race_model.specs.Dice.{roll_at};
-ghost use Rattle.race_model.specs.Ranks.{rank as rank_of};
-ghost use Rattle.race_model.specs.BestPlays.{IsBestPlay};
+ghost use Rattle.std.specs.Prelude.{◌≡◌, ◌≢◌, ℕ, ◌+◌, ◌/◌, ◌^◌, ◌<◌, ◌≤◌, length, slice_index};
+ghost use Rattle.race_model.specs.Prelude.{IsPosition, pips, roll_at, rank as rank_of, IsBestPlay};
 ghost use Rattle.least_plays.specs.Known.{HasRows, Knows};
 ghost use Rattle.certificate.specs.KeptMeans.{kept_place, kept_mean, HasRoom};
 
@@ -37,7 +34,7 @@ impl<const ROOM: usize> AcceptedMeans<ROOM> {
         AcceptedMeans { means: [0; ROOM] }
     }
 
-    /// The mean of one rank more, in the place of the one that is `ROOM` ranks before it.
+    /// Stores the mean of the next rank over the one `ROOM` ranks before.
     #[tactic(auto, unfolding(crate::specs::KeptMeans::kept_mean))]
     fn set(&mut self, rank: u16, mean: u128)
         requires { rank < ROOM + ROOM }
@@ -65,6 +62,8 @@ fn kept_place(rank: u16, room: usize) -> usize
 impl<const ROOM: usize> RankedMeans for AcceptedMeans<ROOM> {
     ghost mean = { λ accepted. kept_mean ROOM accepted };
 
+    ghost leading = { λ accepted rank. kept_mean ROOM accepted rank / 2 ^ 64 };
+
     ghost count = { λ accepted. ROOM + ROOM };
 
     #[inline(always)]
@@ -72,12 +71,17 @@ impl<const ROOM: usize> RankedMeans for AcceptedMeans<ROOM> {
     fn is_less(&self, one: u16, other: u16) -> bool {
         self.means[kept_place(one, ROOM)] < self.means[kept_place(other, ROOM)]
     }
+
+    #[inline(always)]
+    #[tactic(auto, unfolding(crate::specs::KeptMeans::kept_mean))]
+    fn leading_bits(&self, rank: u16) -> u64 {
+        (self.means[kept_place(rank, ROOM)] >> 64) as u64
+    }
 }
 
-/// The means of the last `ROOM` records that were accepted, and what the best plays of the next
-/// position are found by, in so many rows. It takes no memory but its own: 16 bytes for each mean
-/// and 36 for each row, which lie where the value lies, as on the stack of `check`; so lend it by
-/// `&mut`.
+/// The means of the last `ROOM` accepted records, by which best plays are found. `ROWS` rows hold
+/// what is known of lower levels. It takes no memory but its own: 16 bytes for each mean and 36
+/// for each row, which lie where the value lies, as on the stack of `check`; so lend it by `&mut`.
 #[derive(Drop)]
 pub struct LowerRecords<const ROOM: usize, const ROWS: usize> {
     pub means: AcceptedMeans<ROOM>,

@@ -1,8 +1,7 @@
 //! A fault as the line that tells it.
 ghost use Rattle.std.specs.Prelude.{◌≡◌, ◌+◌, ◌≤◌, ◌++◌, List, ℕ, codes, decimal, length};
 ghost use Rattle.arrayvec.specs.ArrayString.{array_string_len};
-ghost use Rattle.race_model.specs.Headers.{HeaderTest};
-ghost use Rattle.race_model.specs.FaultLines.{header_line};
+ghost use Rattle.race_model.specs.Prelude.{HeaderTest, header_line};
 ghost use Rattle.db_layout.specs.HeaderFaults.{test_of};
 ghost use Rattle.certificate.specs.CheckFaults.{line_of};
 

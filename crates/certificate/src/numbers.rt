@@ -1,8 +1,6 @@
 //! The numbers of a record, where an accepted record can hold them.
 ghost use Rattle.std.specs.Prelude.{◌≡◌, ℕ, ◌*◌, ◌<◌, ◌≤◌, ◌↔◌, IsSome, IfSome, length, slice_index, sum};
-ghost use Rattle.race_model.specs.Dice.{roll_at};
-ghost use Rattle.race_model.specs.Files.{mean_of};
-ghost use Rattle.race_model.specs.LocalEquations.{whole};
+ghost use Rattle.race_model.specs.Prelude.{roll_at, mean_of, whole};
 ghost use Rattle.certificate.specs.RecordNumbers.{plays_of, shares_of};
 
 use db_layout::RecordView;

@@ -1,8 +1,7 @@
 //! The sums of what is recorded for the 21 rolls, by the records that they lead to.
 ghost use Rattle.std.specs.Prelude.{◌≡◌, ℕ, ◌<◌, ◌≤◌, ◌↔◌, [], IsTrue, IsSome, IfSome};
 ghost use Rattle.std.specs.Prelude.{slice_index, slice_index_or, sum};
-ghost use Rattle.race_model.specs.Files.{mean_of, record_at, spread_at};
-ghost use Rattle.race_model.specs.LocalEquations.{whole};
+ghost use Rattle.race_model.specs.Prelude.{mean_of, record_at, spread_at, whole};
 ghost use Rattle.db_reader.specs.Telling.{WhereTold};
 ghost use Rattle.certificate.specs.PlaySums.{AreTotalsOf, IsAccepted, told_by};
 ghost use Rattle.certificate.specs.RecordNumbers.{shares_of};
@@ -64,20 +63,21 @@ fn accepted<'a>(view: &RecordView<'a>, is_known: bool) -> Option<AcceptedRecord<
     })
 }
 
-/// The sums of the records that the 21 rolls lead to, which were loaded with these rooms; none of
-/// them has a share of fewer than `first` rolls, or of so many as `rolls` or more. None where a
-/// mean is over 22 rolls, or the shares of a record don't add up to the whole, so that it was not
-/// accepted. That is tested where the table is not known to tell its bytes.
+/// Adds up the records that the 21 rolls lead to, which were loaded with these rooms; none of them
+/// has a share of fewer than `first` rolls, or of so many as `rolls` or more. False where a mean is
+/// over 22 rolls, or the shares of a record don't add up to the whole, so that it was not accepted.
+/// That is tested where the table is not known to tell its bytes.
 // so that its room isn't on the stack while records are read
 #[inline(never)]
-pub fn sums_of<'a, T: Table>(
+pub fn add_plays<'a, T: Table>(
     table: &'a T,
     plays: &[u16; 21],
     rooms: &'a [Record; 21],
     first: u8,
     rolls: u8,
     is_known: bool,
-) -> Option<Sums>
+    sums: &mut Sums,
+) -> bool
     requires ready { (i : ℕ) → i < 21 →
         T.ready table.now (slice_index_or rooms.now i []) (slice_index plays.now i) }
     requires order { first ≤ rolls }
@@ -90,23 +90,24 @@ pub fn sums_of<'a, T: Table>(
         spread_at file (slice_index plays.now i) k ≡ 0) }
     requires beyond { WhereTold (T.tells table.now) (λ file. (i k : ℕ) → i < 21 → rolls ≤ k →
         k < 23 → spread_at file (slice_index plays.now i) k ≡ 0) }
-    ensures some { WhereTold (T.tells table.now) (λ _. IsSome result) }
+    ensures some { WhereTold (T.tells table.now) (λ _. IsTrue result) }
     ensures sums { WhereTold (T.tells table.now)
-        (λ file. IfSome result (AreTotalsOf file plays.now)) }
+        (λ file. IsTrue result → AreTotalsOf file plays.now sums.new) }
 {
     let first_view = table.lend(plays[0], &rooms[0]);
     let Some(found) = accepted(&first_view, is_known) else {
-        return None;
+        return false;
     };
     let mut means = [found.mean; 21];
     let mut shares = [found.shares; 21];
     for index in 1..21 {
         let view = table.lend(plays[index], &rooms[index]);
         let Some(found) = accepted(&view, is_known) else {
-            return None;
+            return false;
         };
         means[index] = found.mean;
         shares[index] = found.shares;
     }
-    Some(Sums::of(&means, &shares, first, rolls))
+    sums.add_up(&means, &shares, first, rolls);
+    true
 }

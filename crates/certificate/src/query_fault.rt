@@ -1,7 +1,7 @@
 //! Why an accepted table has no answer to a question.
 use thiserror::Error;
 
-/// Why a query is refused, in the order of the tests. (This project's profile.)
+/// Why a query is refused, in the order of the tests.
 #[derive(Clone, Copy, Debug, PartialEq, Eq, Error)]
 pub enum QueryFault {
     /// The position has more pips than the bound of the database.

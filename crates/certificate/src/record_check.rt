@@ -2,15 +2,10 @@
 ghost use Rattle.std.specs.Prelude.{◌≡◌, ℕ, ◌+◌, ◌*◌, ◌<◌, ◌≤◌, List, [], IsTrue, Some, Err};
 ghost use Rattle.std.specs.Prelude.{slice_index, slice_index_or};
 ghost use Rattle.std.specs.Prelude.{IsErr, IsErrAnd, IfOk, IfErr, OnOk};
-ghost use Rattle.race_model.specs.Positions.{Board, IsPosition, IsFinished, checkers, pips};
-ghost use Rattle.race_model.specs.Dice.{roll_at};
-ghost use Rattle.race_model.specs.Ranks.{rank as rank_of, at_rank, count_to};
-ghost use Rattle.race_model.specs.Files.{bound_of, record_at, mean_at, spread_at, play};
-ghost use Rattle.race_model.specs.BoardFiles.{board_record};
-ghost use Rattle.race_model.specs.Plays.{Legal};
-ghost use Rattle.race_model.specs.BestPlays.{IsBestPlay};
-ghost use Rattle.race_model.specs.LocalEquations.{IsPlayed, IsBest, IsLocalAt};
-ghost use Rattle.race_model.specs.BoardEquations.{IsLocalOnBoard};
+ghost use Rattle.race_model.specs.Prelude.{Board, IsPosition, IsFinished, checkers, pips, roll_at, rank as rank_of};
+ghost use Rattle.race_model.specs.Prelude.{at_rank, count_to, bound_of, record_at, mean_at, spread_at, play};
+ghost use Rattle.race_model.specs.Prelude.{board_record, Legal, IsBestPlay, IsPlayed, IsBest, IsLocalAt};
+ghost use Rattle.race_model.specs.Prelude.{IsLocalOnBoard, most_rolls};
 ghost use Rattle.least_plays.specs.Known.{HasRows, Knows};
 ghost use Rattle.db_layout.specs.LowerRecords.{board_mean};
 ghost use Rattle.db_reader.specs.Telling.{WhereTold};
@@ -18,15 +13,14 @@ ghost use Rattle.db_reader.specs.TableStays.{TableStays};
 ghost use Rattle.db_reader.specs.Reads.{HasHeader, HasRecord};
 ghost use Rattle.certificate.specs.KeptMeans.{HasRoom};
 ghost use Rattle.certificate.specs.LowerRecords.{IsLower};
-ghost use Rattle.certificate.specs.RecordNumbers.{AreSumsOf};
-ghost use Rattle.race_model.specs.Horizon.{most_rolls};
+ghost use Rattle.certificate.specs.RecordNumbers.{AreSumsOf, sums_if};
 ghost use Rattle.certificate.specs.RecordFaults.{IsFirstFaultAt, IsFirstFaultOnBoardAt};
 
 use crate::check_fault::{RecordFault, of_refused};
 use crate::equations::{PlayedRecord, SummedRecord, check_numbers};
 use crate::kept::LowerRecords;
 use crate::numbers::{plays_by, plays_in};
-use crate::play_sums::sums_of;
+use crate::play_sums::add_plays;
 use db_layout::{BoardRecord, Header, WORDS, most_rolls, word_sums};
 use db_reader::{ReadFault, Record, Table};
 use fixed_fraction::Sums;
@@ -35,7 +29,7 @@ use least_plays::{LeastPlays, ROWS_TO_90, check_plays};
 use race_model::laws;
 use ranking::Ranks;
 
-/// Makes the records that the 21 rolls lead to ready to be lent, each with a room of its own.
+/// Loads the records after the 21 plays, each into a buffer of its own.
 #[inline(always)]
 fn load_plays<T: Table>(
     table: &mut T,
@@ -75,15 +69,16 @@ fn range_of(position: &Position, is_known: bool) -> (u8, u8)
     (first, end)
 }
 
-/// The sums of what is recorded for the 21 rolls, where each is a result of its roll; none of the
-/// finished position, which has no lower records.
+/// Adds up the records after the 21 plays, which are legal; false at the finished position, which
+/// has no lower records.
 #[inline(always)]
 fn sum_plays<T: Table>(
     table: &mut T,
     position: &Position,
     recorded: &[u16; 21],
     rooms: &mut [Record; 21],
-) -> Result<Option<Sums>, ReadFault>
+    sums: &mut Sums,
+) -> Result<bool, ReadFault>
     requires position { IsPosition position.now }
     requires short { pips position.now ≤ 58 }
     requires recorded { WhereTold (T.tells table.old) (λ file. (i : ℕ) → i < 21 →
@@ -98,25 +93,24 @@ fn sum_plays<T: Table>(
     ensures others { (bytes : List ℕ) (other : ℕ) →
         T.ready table.old bytes other → T.ready table.new bytes other }
     ensures totals { WhereTold (T.tells table.old)
-        (λ file. IfOk result (AreSumsOf file position.now)) }
+        (λ file. IfOk result (λ some. AreSumsOf file position.now (sums_if some sums.new))) }
     ensures stays { TableStays ⟦<T as Table>⟧ table.old table.new (IsErr result) }
 {
     if position.is_finished() {
-        return Ok(None);
+        return Ok(false);
     }
     load_plays(table, recorded, rooms)?;
     let is_known = table.is_told();
     let (first, rolls) = range_of(position, is_known);
-    match sums_of(table, recorded, rooms, first, rolls, is_known) {
-        Some(sums) => Ok(Some(sums)),
-        None => Err(ReadFault),
+    if !add_plays(table, recorded, rooms, first, rolls, is_known, sums) {
+        return Err(ReadFault);
     }
+    Ok(true)
 }
 
-/// Tests the record of a rank of a table in which each record of lower rank was accepted, and
-/// keeps of it what the records of higher rank are tested by, where there is room for the
-/// means of so many ranks. The records that the 21 rolls lead to are lent at once, each from a
-/// room of its own.
+/// Tests the record of a rank after all lower ones were accepted. Keeps what the tests of higher
+/// ranks need, with room for the means of `ROOM` ranks. The records that the 21 rolls lead to are
+/// lent at once, each from a room of its own. Their sums stand where the last ones did.
 // a function of its own, since a browser makes a function fast only between two calls of it
 #[inline(never)]
 pub fn check_record<T: Table, const ROOM: usize, const ROWS: usize>(
@@ -127,6 +121,7 @@ pub fn check_record<T: Table, const ROOM: usize, const ROWS: usize>(
     lower: &mut LowerRecords<ROOM, ROWS>,
     own: &mut Record,
     rooms: &mut [Record; 21],
+    sums: &mut Sums,
 ) -> Result<(), RecordFault>
     requires header { T.accepted table.old ≡ Some header }
     requires rank { rank < header.count }
@@ -158,14 +153,15 @@ pub fn check_record<T: Table, const ROOM: usize, const ROWS: usize>(
     if let Err(refused) = check_plays(&lower.means, ranks, &position, &recorded, &best) {
         return Err(of_refused(refused));
     }
-    let sums = match sum_plays(table, &position, &recorded, rooms) {
-        Ok(sums) => sums,
+    let has_sums = match sum_plays(table, &position, &recorded, rooms, sums) {
+        Ok(has_sums) => has_sums,
         Err(_) => return Err(RecordFault::Read),
     };
     let view = table.lend(rank, own);
     let record = SummedRecord {
         view: &view,
-        sums: &sums,
+        sums,
+        has_sums,
     };
     if let Err(fault) = check_numbers(&record) {
         return Err(fault);
@@ -174,8 +170,8 @@ pub fn check_record<T: Table, const ROOM: usize, const ROWS: usize>(
     Ok(())
 }
 
-/// Tests the record of the next rank of a board file, where each of lower rank was accepted. The
-/// plays of the position after it can be found then.
+/// Tests a board file's next record after all lower ones were accepted. The plays of the position
+/// after it can be found then.
 #[inline(never)]
 pub fn check_board_record(
     lower: &db_layout::LowerRecords<'_>,

@@ -1,11 +1,8 @@
 //! An accepted database, written again as a file of version 2.
 ghost use Rattle.std.specs.Prelude.{◌≡◌, ℕ, ◌*◌, ◌<◌, ◌≤◌, ◌↔◌, Some, Err, IsSome, IfSome, IfErr, OnOk, OnErr, sum};
 ghost use Rattle.std.specs.Io.KnownBytes.{Appends};
-ghost use Rattle.race_model.specs.Positions.{pips};
-ghost use Rattle.race_model.specs.Ranks.{at_rank, count_to};
-ghost use Rattle.race_model.specs.Versions.{version_by, compact};
-ghost use Rattle.race_model.specs.Files.{bound_of, mean_of};
-ghost use Rattle.race_model.specs.LocalEquations.{whole, IsLocalDatabase};
+ghost use Rattle.race_model.specs.Prelude.{pips, at_rank, count_to, version_by, compact, bound_of, mean_of, whole};
+ghost use Rattle.race_model.specs.Prelude.{IsLocalDatabase};
 ghost use Rattle.db_layout.specs.Writes.{AppendsPart};
 ghost use Rattle.db_reader.specs.Telling.{WhereTold};
 ghost use Rattle.db_reader.specs.TableStays.{TableStays};

@@ -1,8 +1,6 @@
 -- Where the records of a board file stand: each behind the one before it.
 use Rattle.std.proofs.Common.{◌≡◌, ℕ, suc, ◌+◌, ◌*◌, ◌<◌, ◌≤◌, ap, arith, add-one}
-use Rattle.race_model.specs.Positions.{pips}
-use Rattle.race_model.specs.Ranks.{at_rank}
-use Rattle.race_model.specs.BoardFiles.{board_length, board_place}
+use Rattle.race_model.specs.Prelude.{pips, at_rank, board_length, board_place}
 use Rattle.race_model.proofs.RightFiles.Places.{board_place-by, place_by-most, place_by-next}
 use Rattle.db_layout.specs.declared.stated.Kind.TheVariants.{Board}
 use Rattle.db_layout.proofs.RecordPlaces.{length-most, place-most, place_before}

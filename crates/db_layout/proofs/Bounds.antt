@@ -1,6 +1,6 @@
 -- The bound of a header.
 use Rattle.std.proofs.Common.{◌≤◌, le_trans}
-use Rattle.race_model.specs.Versions.{version_by}
+use Rattle.race_model.specs.Prelude.{version_by}
 use Rattle.race_model.proofs.RightFiles.Right.{greatest_bound-most}
 use Rattle.db_layout.specs.declared.header.Header.{Header}
 

@@ -4,7 +4,7 @@ use Rattle.std.proofs.Common.{take-take, sym, ap, subst, ◌∙◌, arith}
 use Rattle.std.proofs.lemmas.List.{drop-drop, drop-take}
 use Rattle.std.proofs.lemmas.Slice.{between-put_mid}
 use Rattle.std.specs.Int.{w128, from_le_bytes, to_le_bytes, from_be_bytes, to_be_bytes}
-use Rattle.race_model.specs.Files.{bytes_at}
+use Rattle.race_model.specs.Prelude.{bytes_at}
 use Rattle.db_layout.proofs.Bytes.{from_be_bytes-to_be_bytes_16}
 use borrow.Rule.Slice.PartMut.{put_mid}
 
@@ -31,7 +31,7 @@ bytes_at-front f n place m within =
     parts : (n place m : ℕ) → place + m ≤ n → n ≡ place + (n - place)
     parts n place m within = omega (arith, within)
 
--- .. in two lists that begin alike
+-- some of the first bytes are the same in two lists that begin alike
 pub bytes_at-agree : (f g : List ℕ) (n place m : ℕ) → take n f ≡ take n g → place + m ≤ n →
     bytes_at f place m ≡ bytes_at g place m
 bytes_at-agree f g n place m same within =

@@ -1,7 +1,7 @@
 -- The bytes of numbers, and what one reads in the bytes of a record.
-use Rattle.std.proofs.Common.{◌≡◌, ℕ, zero, suc, ◌+◌, ◌-◌, ◌*◌, ◌/◌, ◌%◌, ◌^◌, ◌<◌, ◌≤◌, List, []}
-use Rattle.std.proofs.Common.{◌∷◌, ◌++◌, length, sum, take, drop, get_or, refl, sym, ap, ap₂, subst}
-use Rattle.std.proofs.Common.{◌∙◌, arith, append_assoc, ⊎_elim, Bool, false, cond, leb}
+use Rattle.std.proofs.Common.{◌≡◌, ℕ, zero, suc, ◌+◌, ◌-◌, ◌*◌, ◌/◌, ◌%◌, ◌^◌, ◌<◌, ◌≤◌, List, [], ◌∷◌, ◌++◌, length}
+use Rattle.std.proofs.Common.{sum, take, drop, get_or, refl, sym, ap, ap₂, subst, ◌∙◌, arith, append_assoc, ⊎_elim}
+use Rattle.std.proofs.Common.{Bool, false, cond, leb, flat_map, replicate, codes, true}
 use Rattle.std.proofs.lemmas.Grind.{flat_map-append}
 use Rattle.std.proofs.lemmas.List.{length-append, length-take, length-drop, get_or-take}
 use Rattle.std.proofs.lemmas.List.{get_or-drop, get_or_past, append-nil, take_more}
@@ -11,18 +11,13 @@ use Rattle.std.proofs.Math.Dec.{ltb}
 use Rattle.std.proofs.lemmas.Bool.{ltb-true, leb-true, cases_lt}
 use Rattle.std.specs.List.{list_all}
 use Rattle.std.proofs.Math.Seq.{take-append_seam, drop-append-add}
-use Rattle.std.specs.Prelude.{flat_map, replicate, codes, true}
 use Rattle.std.specs.Int.{w16, w32, w128, byte_at, byte_worth, bytes_high_first, sum_through}
 use Rattle.std.specs.Int.{to_be_bytes, from_be_bytes}
 use Rattle.std.proofs.lemmas.Nat.{from_be_bytes-to_be_bytes_2}
-use Rattle.race_model.specs.Ranks.{count_to}
-use Rattle.race_model.specs.Horizon.{most_rolls}
-use Rattle.race_model.specs.Versions.{Version, full, compact, version_number, stated_length}
-use Rattle.race_model.specs.Versions.{first_share, share_count, record_length}
-use Rattle.race_model.specs.Files.{IsBytes, header, mean_of, play_of, share_of}
-use Rattle.race_model.specs.ToldShares.{told_share}
+use Rattle.race_model.specs.Prelude.{count_to, most_rolls, Version, full, compact, version_number, stated_length}
+use Rattle.race_model.specs.Prelude.{first_share, share_count, record_length, IsBytes, header, mean_of, play_of}
+use Rattle.race_model.specs.Prelude.{share_of, told_share, whole}
 use Rattle.race_model.proofs.RightFiles.ToldRecords.{told_mean, told_play, told_shares}
-use Rattle.race_model.specs.LocalEquations.{whole}
 use Rattle.fixed_fraction.proofs.Shares.{share_at_most_sum}
 use Rattle.db_layout.specs.Records.{short_bytes, wide_bytes, stored_shares, record_of, IsHeld, IsRecordOf}
 
@@ -88,7 +83,7 @@ pub from_be_bytes-to_be_bytes_16 : (n : ℕ) → n < 2 ^ 128 →
 unfolding value
 from_be_bytes-to_be_bytes_16 n fits = value-bytes 15 n ∙ omega arith
 
--- .. and one of 16 bits
+-- a number of 16 bits is read back
 pub from_be_bytes-short : (n : ℕ) → n < 2 ^ 16 → from_be_bytes w16 (short_bytes n) ≡ n
 unfolding short_bytes
 from_be_bytes-short n fits = from_be_bytes-to_be_bytes_2 n fits
@@ -113,7 +108,7 @@ length-parts g w each [] = omega arith
 length-parts g w each (x ∷ xs) =
     omega (arith, length-append (g x) (flat_map g xs), each x, length-parts g w each xs)
 
--- .. and one of them
+-- one of some parts of equal length
 pub take-part : (g : ℕ → List ℕ) (w : ℕ) → ((x : ℕ) → length (g x) ≡ w) →
     (xs rest : List ℕ) (i : ℕ) → i < length xs →
     take w (drop (w * i) (flat_map g xs ++ rest)) ≡ g (get_or xs i 0)
@@ -133,7 +128,7 @@ module _ (first count : ℕ) (shares : List ℕ) (room : first + count ≤ lengt
   length-stored =
       omega (arith, room, length-take count (drop first shares), length-drop first shares)
 
-  -- .. and which
+  -- which shares are stored
   pub get_or-stored : (j : ℕ) → j < count →
       get_or (take count (drop first shares)) j 0 ≡ get_or shares (first + j) 0
   get_or-stored j inside =
@@ -242,14 +237,14 @@ module _ (version : Version) (p mean : ℕ) (plays shares : List ℕ) (rolls : m
   abbrev stored : List ℕ
   stored = stored_shares version p shares
 
-  -- .. which are among the 23
+  -- the stored shares are among the 23
   room : first_share version + share_count version p ≤ length shares
   room = omega (arith, many, stored_room version p rolls)
 
   length-these : length stored ≡ share_count version p
   length-these = length-stored (first_share version) (share_count version p) shares room
 
-  -- .. and no greater than these
+  -- the stored shares are no greater than 128 bits
   fits : (k : ℕ) → get_or stored k 0 < 2 ^ 128
   fits k = ⊎_elim
       (λ inside.
@@ -322,7 +317,7 @@ pub shares_fit : (shares : List ℕ) → sum shares ≡ whole → (k : ℕ) → 
 unfolding whole
 shares_fit shares all k = omega (arith, share_at_most_sum shares k)
 
--- .. nor is a mean
+-- no mean is over 128 bits
 pub mean_fits : (mean : ℕ) → mean ≤ 22 * whole → mean < 2 ^ 128
 unfolding whole
 mean_fits mean le = omega arith
@@ -381,7 +376,7 @@ small_record version p mean plays shares =
     (small_parts short_bytes small_short plays)
     (small_parts wide_bytes small_wide (stored_shares version p shares)))
 
--- .. and so is a header
+-- the bytes of a header are bytes
 small_none : IsBytes []
 small_none i = omega arith
 

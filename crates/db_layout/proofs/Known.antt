@@ -1,8 +1,8 @@
 -- Known bytes that grow in several steps.
 use Rattle.std.proofs.Common.{ℕ, ◌+◌, List, [], ◌++◌, take, drop, Option, Some, None, sym, subst, ◌∙◌, append_assoc}
+use Rattle.std.proofs.Common.{◌≡◌, Result, Ok, Err, IfErr}
 use Rattle.std.proofs.lemmas.List.{append-nil}
 use Rattle.std.proofs.Math.Seq.{take-add}
-use Rattle.std.specs.Prelude.{◌≡◌, Result, Ok, Err, IfErr}
 use Rattle.std.specs.Result.{OnErr, IsErrAnd}
 use Rattle.std.specs.Io.KnownBytes.{Appends, Keeps}
 
@@ -11,7 +11,7 @@ pub on-error : {T E P : Type 0} (r : Result T E) → P → OnErr r P
 on-error (Ok x) p = tt
 on-error (Err e) p = p
 
--- .. and so what holds of the one error that there can be
+-- what holds of the one error that there can be holds on an error
 pub one-error : {T E : Type 0} (r : Result T E) (e : E) (P : E → Type 0) →
     IsErrAnd r (λ y. y ≡ e) → P e → IfErr r P
 one-error (Ok x) e P h p = tt
@@ -22,7 +22,7 @@ pub appends_none : (old : Option (List ℕ)) → Appends old old []
 appends_none None = tt
 appends_none (Some xs) = sym (append-nil xs)
 
--- .. and so have bytes that stay
+-- bytes that stay have grown by none
 pub appends_kept : (old new : Option (List ℕ)) → Keeps old new → Appends old new []
 appends_kept None new h = tt
 appends_kept (Some xs) None h = h

@@ -1,17 +1,12 @@
 -- What is known of the records of lower rank, where they meet their equations.
-use Rattle.std.proofs.Common.{◌≡◌, ℕ, zero, suc, cond, eq-eqb, ne_eqb, ◌+◌, ◌*◌, ◌^◌, ◌<◌, ◌≤◌, List, length}
-use Rattle.std.proofs.Common.{w64, refl, subst, sym, ap, ◌∙◌, ⊎_elim, arith}
-use Rattle.std.specs.Prelude.{Option, None, Some, IsSome, IfSome}
+use Rattle.std.proofs.Common.{◌≡◌, ℕ, zero, suc, cond, eq-eqb, ne_eqb, ◌+◌, ◌*◌, ◌^◌, ◌<◌, ◌≤◌, List, length, w64, refl}
+use Rattle.std.proofs.Common.{subst, sym, ap, ◌∙◌, ⊎_elim, arith, Option, None, Some, IsSome, IfSome}
 use Rattle.std.specs.Option.{unwrap_or}
 use Rattle.std.specs.Int.{w128, from_be_bytes}
 use Rattle.std.proofs.lemmas.Bool.{false≢true, le-leb, lt-leb, cases_lt}
-use Rattle.race_model.specs.Positions.{Board, IsPosition, pips}
-use Rattle.race_model.specs.Ranks.{rank, at_rank}
-use Rattle.race_model.specs.Files.{bytes_at}
-use Rattle.race_model.specs.Horizon.{most_rolls}
-use Rattle.race_model.specs.BoardFiles.{board_book, board_length, board_place, board_record}
-use Rattle.race_model.specs.BoardFiles.{count_place, mean_parts, count_parts, count_at, value_of_parts}
-use Rattle.race_model.specs.BoardEquations.{IsLocalOnBoard}
+use Rattle.race_model.specs.Prelude.{Board, IsPosition, pips, rank, at_rank, bytes_at, most_rolls, board_book}
+use Rattle.race_model.specs.Prelude.{board_length, board_place, board_record, count_place, mean_parts, count_parts}
+use Rattle.race_model.specs.Prelude.{count_at, value_of_parts, IsLocalOnBoard}
 use Rattle.race_model.proofs.Books.Boards.{counts_of_local}
 use Rattle.race_model.proofs.Ranks.PositionTotals.{rank-at_rank}
 use Rattle.race_model.proofs.Ranks.RankOrder.{at_rank_position, at_rank-rank, pips-range}
@@ -73,7 +68,7 @@ module _ (f : List ℕ) (n : ℕ) (few : n ≤ 54264) (local : AreLocalTo f n) w
         (mean-at_most (board_book f) (count_at f) 33 (at_rank r)
         (ends_in_33 (at_rank r) (at_rank_position r)) (at_rank_position r) meets-rank)
 
-    -- .. and its counts are, and at most all sequences
+    -- its counts are written, and at most all sequences
     pub count-most : (k : ℕ) → k ≤ 33 → count_at f r k ≤ 36 ^ k
     count-most k le =
         subst (λ q. count_at f q k ≤ 36 ^ k) ranked
@@ -150,7 +145,7 @@ module _ (f : List ℕ) (r : ℕ) where
   unfolding count_at
   told-within k = told_some (pips (at_rank r)) k (board_record f r)
 
-  -- .. to 11 throws
+  -- what is told of k throws, to 11 throws
   pub told-short : (k : ℕ) → 0 < k → k ≤ most_rolls (pips (at_rank r)) → k ≤ 11 →
       count_at f r k ≡ from_be_bytes w64 (bytes_at (board_record f r) (count_place k) 8)
   told-short k some within few =

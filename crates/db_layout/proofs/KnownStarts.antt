@@ -3,11 +3,9 @@ use Rattle.std.proofs.Common.{◌≡◌, ℕ, zero, suc, ◌+◌, ◌-◌, ◌*�
 use Rattle.std.proofs.Common.{refl, sym, ap, ap₂, ◌∙◌, arith, add-one}
 use Rattle.std.specs.List.{range_with_len}
 use Rattle.std.proofs.lemmas.List.FromFn.{get_or-map-range_with_len}
-use Rattle.race_model.specs.Ranks.{first_of}
-use Rattle.race_model.specs.Versions.{compact, record_length}
+use Rattle.race_model.specs.Prelude.{first_of, compact, record_length, place_by, record_place, board_length}
+use Rattle.race_model.specs.Prelude.{board_place}
 use Rattle.race_model.proofs.Ranks.RankOrder.{first_of-zero}
-use Rattle.race_model.specs.Files.{place_by, record_place}
-use Rattle.race_model.specs.BoardFiles.{board_length, board_place}
 use Rattle.race_model.proofs.RightFiles.Places.{place_by-first, record_place-by, board_place-by}
 use Rattle.ranking.specs.declared.firsts.TheConstants.{FIRSTS}
 use Rattle.ranking.proofs.LevelCounts.{at_first}
@@ -26,7 +24,7 @@ module _ (size : ℕ → ℕ) where
   starts_from f p start (suc n) =
       start ∷ starts_from f (suc p) (start + (f (suc p) - f p) * size p) n
 
-  -- .. these are the places
+  -- where these sums are the counts of fewer pips, they give the places
   map-place : (f : ℕ → ℕ) (p n : ℕ) → ((m : ℕ) → m ≤ p + n → f m ≡ first_of m) →
       map place (range_with_len p n) ≡ starts_from f p (place p) n
   map-place f p zero counts = refl
@@ -65,7 +63,7 @@ at_start p low =
     at_place (record_length compact) STARTS 59 (omega arith) refl p (omega (arith, low))
     ∙ sym (record_place-by compact (first_of p))
 
--- .. and each of that for a board file
+-- each number of the table for board files is where the records of a pip count begin
 pub at_board_start : (p : ℕ) → p ≤ 90 → slice_index BOARD_STARTS p ≡ board_place (first_of p)
 at_board_start p low =
     at_place board_length BOARD_STARTS 91 (omega arith) refl p (omega (arith, low))

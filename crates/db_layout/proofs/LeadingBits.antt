@@ -1,9 +1,9 @@
 -- The leading bits of means: lower ones are those of a lesser mean, and they are the same in bytes
 -- that begin alike.
-use Rattle.std.proofs.Common.{◌≡◌, ℕ, ◌-◌, ◌/◌, ◌^◌, ◌<◌, ◌≤◌, min, List, slice_index, take}
-use Rattle.std.proofs.Common.{refl, ap, ◌∙◌, arith}
+use Rattle.std.proofs.Common.{◌≡◌, ℕ, ◌-◌, ◌/◌, ◌^◌, ◌<◌, ◌≤◌, min, List, take}
+use Rattle.std.proofs.Common.{refl, ap, arith}
 use Rattle.std.specs.Int.{w128, from_be_bytes}
-use Rattle.race_model.specs.BoardFiles.{Parts, value_of_parts, mean_parts, board_place, board_record}
+use Rattle.race_model.specs.Prelude.{Parts, value_of_parts, mean_parts, board_place, board_record}
 use Rattle.db_layout.specs.LowerRecords.{AreRecords, board_mean, leading_at}
 use Rattle.db_layout.proofs.BoardPlaces.{board_place-rises}
 use Rattle.db_layout.proofs.ByteParts.{bytes_at-agree}
@@ -29,19 +29,17 @@ leads-agree f g n c same within r under =
 
 -- so they tell which of two ranks has the lesser mean
 pub leads-tell : (bytes : List ℕ) (n : ℕ) (offsets leading : List ℕ) →
-    AreRecords bytes n offsets leading → (one other : ℕ) → one < n → other < n →
-    slice_index leading one < slice_index leading other →
+    AreRecords bytes n offsets leading → (one other : ℕ) → one < n →
+    leading_at bytes (board_place one) < leading_at bytes (board_place other) →
     board_mean bytes one < board_mean bytes other
-leads-tell bytes n offsets leading are one other in_one in_other less =
+leads-tell bytes n offsets leading are one other in_one less =
     leads-less (mean_parts (board_record bytes one)) (mean_parts (board_record bytes other))
     (mean-written bytes n are.few are.local one in_one)
-    (same (is one in_one) (is other in_other) less)
+    (same (is one) (is other) less)
   where
     same : {a b c d : ℕ} → a ≡ c → b ≡ d → a < b → c < d
     same first second lt = omega (arith, first, second, lt)
 
-    is : (r : ℕ) → r < n → slice_index leading r
+    is : (r : ℕ) → leading_at bytes (board_place r)
         ≡ min ((mean_parts (board_record bytes r)).upper / 2 ^ 87) (2 ^ 32 - 1)
-    is r under =
-        are.lead r under
-        ∙ ap (λ n. min (n / 2 ^ 87) (2 ^ 32 - 1)) (mean-upper bytes (board_place r) r refl)
+    is r = ap (λ n. min (n / 2 ^ 87) (2 ^ 32 - 1)) (mean-upper bytes (board_place r) r refl)

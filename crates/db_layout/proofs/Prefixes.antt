@@ -4,8 +4,7 @@ use Rattle.std.proofs.Common.{take, refl, sym, ap, subst, ◌∙◌, arith, appe
 use Rattle.std.specs.Io.KnownBytes.{Appends}
 use Rattle.std.proofs.lemmas.List.{append-nil}
 use Rattle.std.proofs.Math.Seq.{take-append_seam}
-use Rattle.race_model.specs.Versions.{Version}
-use Rattle.race_model.specs.Files.{header}
+use Rattle.race_model.specs.Prelude.{Version, header}
 use Rattle.db_layout.specs.Writes.{AppendsPart}
 use Rattle.db_layout.specs.WholeFiles.{records_from, file_of}
 use Rattle.db_layout.proofs.Known.{appends_twice}
@@ -40,7 +39,7 @@ part-behind old mid new front next rest before part =
           (ap (λ (bs : List ℕ). front ++ bs) first.1 ∙ all.1) both,
     )
 
--- .. and so have bytes that grow by a front alone
+-- bytes that grow by a front alone have grown by a prefix of it and more
 front-part : (old new : Option (List ℕ)) (front rest : List ℕ) → Appends old new front
     → AppendsPart old new (front ++ rest)
 front-part old new front rest all = (
@@ -82,7 +81,7 @@ module _ (version : Version) (bound : ℕ) (bytes : ℕ → List ℕ) where
       (appends_twice old mid new (file_of version bound bytes n) (records_from bytes n m) before
       all)
 
--- .. and up to the last rank
+-- the file up to the last rank
 module _ (version : Version) (bound : ℕ) (bytes : ℕ → List ℕ) (count : ℕ) where
   -- up to a rank, the records of more ranks, and the rest
   file-split : (n m : ℕ) → n + m ≤ count → file_of version bound bytes count
@@ -117,7 +116,7 @@ module _ (version : Version) (bound : ℕ) (bytes : ℕ → List ℕ) (count : �
       (front-part old new (file_of version bound bytes n)
       (records_from bytes n 0 ++ records_from bytes (n + 0) (count - (n + 0))) all)
 
-  -- .. and a prefix of more ranks
+  -- the file up to a rank and a prefix of more ranks
   pub more-part : (old mid new : Option (List ℕ)) (n m : ℕ) → n + m ≤ count
       → Appends old mid (file_of version bound bytes n) →
       AppendsPart mid new (records_from bytes n m)

@@ -1,12 +1,10 @@
 -- Where the records of a file stand: each behind the one before it, and those of one pip count, all
 -- of one length, behind those of fewer pips.
 use Rattle.std.proofs.Common.{◌≡◌, ℕ, suc, ◌+◌, ◌-◌, ◌*◌, ◌<◌, ◌≤◌, ap, sym, ◌∙◌, arith, add-one}
-use Rattle.race_model.specs.Positions.{pips}
-use Rattle.race_model.specs.Ranks.{rank, at_rank, first_of, count_to}
+use Rattle.race_model.specs.Prelude.{pips, rank, at_rank, first_of, count_to, place_by, Version, full, compact}
+use Rattle.race_model.specs.Prelude.{version_by, record_length}
 use Rattle.race_model.proofs.Ranks.RankOrder.{at_rank_position, pips-range, first_of-suc, first_of-rises}
 use Rattle.race_model.proofs.Ranks.PositionTotals.{rank-at_rank, count_to-most}
-use Rattle.race_model.specs.Files.{place_by}
-use Rattle.race_model.specs.Versions.{Version, full, compact, version_by, record_length}
 use Rattle.race_model.proofs.Strategies.Horizons.{most_rolls-board}
 use Rattle.race_model.proofs.RightFiles.Places.{place_by-level, place_by-rises, place_by-at_most}
 use Rattle.race_model.proofs.RightFiles.Places.{record_place-by, board_place-by}
@@ -38,7 +36,7 @@ module _ (size : ℕ → ℕ) where
       place_by-level size (size p) (first_of p) n
       (λ k from under. ap size (pips_between p k from (omega (arith, under, room))))
 
-  -- .. and so the first of the next pip count
+  -- where the first record of the next pip count stands
   pub place_beyond : (p : ℕ) →
       place_by size (first_of (p + 1))
       ≡ place_by size (first_of p) + (first_of (p + 1) - first_of p) * size p
@@ -80,7 +78,7 @@ pub place-in : (kind : Kind) (version r : ℕ) →
 place-in Database version r = record_place-by (version_by version) r
 place-in Board version r = board_place-by r
 
--- .. and has at most 594 bytes
+-- a record of a kind of file has at most 594 bytes
 pub length-most : (kind : Kind) (version p : ℕ) → p ≤ 90 → length_in kind version p ≤ 594
 length-most Database version p low = by_version (version_by version) where
   by_version : (v : Version) → record_length v p ≤ 594
@@ -88,7 +86,7 @@ length-most Database version p low = by_version (version_by version) where
   by_version compact = omega (arith, most_rolls-board p low)
 length-most Board version p low = omega (arith, most_rolls-board p low)
 
--- .. so none begins later than such records would
+-- no record begins later than records of 594 bytes would
 pub place-most : (kind : Kind) (version r : ℕ) → (layout_in kind version).place r ≤ 32 + 594 * r
 place-most kind version r =
     rw (place-in kind version r)

@@ -4,8 +4,7 @@ use Rattle.std.proofs.Common.{◌≡◌, ℕ, ◌+◌, ◌-◌, ◌*◌, ◌≤�
 use Rattle.std.proofs.Common.{refl, ap, sym, ◌∙◌, arith}
 use Rattle.std.proofs.lemmas.List.{drop-drop}
 use Rattle.std.specs.Int.{w16, w64, w128, from_be_bytes}
-use Rattle.race_model.specs.Files.{bytes_at}
-use Rattle.race_model.specs.BoardFiles.{count_place, mean_parts, board_play_of, count_parts}
+use Rattle.race_model.specs.Prelude.{bytes_at, count_place, mean_parts, board_play_of, count_parts}
 use Rattle.race_model.proofs.RightFiles.CountParts.{same_parts, by_throws}
 use Rattle.race_model.proofs.RightFiles.CountParts.{count-short, count-middle, count-long}
 use Rattle.db_layout.proofs.ByteParts.{bytes_at-agree, front-agree}
@@ -31,7 +30,7 @@ rest-agree f g m n le same =
     parts : (m n : ℕ) → m ≤ n → n ≡ m + (n - m)
     parts m n le = omega (arith, le)
 
--- .. and what stays twice stays
+-- what stays from a place on at two steps stays
 pub rest_stays : (m n : ℕ) (old mid new : List ℕ) → m ≤ n → drop m mid ≡ drop m old →
     drop n new ≡ drop n mid → drop n new ≡ drop n old
 rest_stays m n old mid new le first second = second ∙ rest-agree mid old m n le first

@@ -1,15 +1,9 @@
 -- The records of the ranks below one stand before its place. So they are the same in two lists of
 -- bytes that begin alike, and so is what they say: later bytes change nothing of lower ranks.
 use Rattle.std.proofs.Common.{◌≡◌, ℕ, ◌*◌, ◌-◌, ◌^◌, ◌<◌, ◌≤◌, List, length, take, refl, ap, subst, ◌∙◌, arith}
-use Rattle.race_model.specs.Positions.{Board, IsPosition, pips}
-use Rattle.race_model.specs.Dice.{Throw, roll_index}
-use Rattle.race_model.specs.Ranks.{rank, at_rank}
-use Rattle.race_model.specs.Books.{play_in, whole_in}
-use Rattle.race_model.specs.BestPlays.{IsBestPlay}
-use Rattle.race_model.specs.BoardFiles.{value_of_parts, board_length, board_place, board_record}
-use Rattle.race_model.specs.BoardFiles.{mean_parts, board_play_of, count_parts, told_count, count_at}
-use Rattle.race_model.specs.BoardFiles.{board_book}
-use Rattle.race_model.specs.BoardEquations.{IsLocalOnBoard}
+use Rattle.race_model.specs.Prelude.{Board, IsPosition, pips, Throw, roll_index, rank, at_rank, play_in, whole_in}
+use Rattle.race_model.specs.Prelude.{IsBestPlay, value_of_parts, board_length, board_place, board_record, mean_parts}
+use Rattle.race_model.specs.Prelude.{board_play_of, count_parts, told_count, count_at, board_book, IsLocalOnBoard}
 use Rattle.race_model.proofs.Books.SameRanks.{local-same}
 use Rattle.race_model.proofs.Ranks.BestPlays.{legal_lower, play-agree_reached}
 use Rattle.db_layout.proofs.BoardPlaces.{board_place-rises}

@@ -1,8 +1,7 @@
 -- Sums over the rolls of what stands in a list by their index.
-use Rattle.std.proofs.Common.{◌≡◌, ℕ, ◌+◌, ◌*◌, ◌^◌, ◌<◌, List, map, sym, ap, ◌∙◌, arith}
+use Rattle.std.proofs.Common.{◌≡◌, ℕ, ◌+◌, ◌*◌, ◌^◌, ◌<◌, List, map, sym, ap, ◌∙◌, arith, slice_index}
 use Rattle.std.proofs.Math.ListN.{get_or-map}
-use Rattle.std.specs.Prelude.{slice_index}
-use Rattle.race_model.specs.Dice.{roll_index, weight, all_rolls, weighted}
+use Rattle.race_model.specs.Prelude.{roll_index, weight, all_rolls, weighted}
 use Rattle.race_model.proofs.Dice.RollSums.{roll_index-range}
 use Rattle.race_model.proofs.Numbers.Sums.{sum_by-equal, sum_by-times, sum_by-add}
 
@@ -13,7 +12,7 @@ weighted-by_index g h same =
     sum_by-equal (λ v. weight v * g (roll_index v)) (λ v. weight v * h (roll_index v)) all_rolls
     (λ v. ap (λ n. weight v * n) (same (roll_index v) (roll_index-range v)))
 
--- .. and of those in a list
+-- sums of numbers of a list that are the same for each index
 pub weighted-listed : (xs : List ℕ) (h : ℕ → ℕ) → ((i : ℕ) → i < 21 → slice_index xs i ≡ h i) →
     weighted (λ v. slice_index (map (λ x. x) xs) (roll_index v)) ≡ weighted (λ v. h (roll_index v))
 weighted-listed xs h same =

@@ -1,16 +1,11 @@
 -- A whole file of records, and what one reads in it.
-use Rattle.std.proofs.Common.{◌≡◌, ℕ, zero, suc, ◌+◌, ◌-◌, ◌<◌, ◌≤◌, List, ◌++◌, length, take, drop}
-use Rattle.std.proofs.Common.{refl, sym, ap, subst, ◌∙◌, arith, le_trans, append_assoc}
-use Rattle.std.proofs.Common.{length-append}
-use Rattle.std.specs.Prelude.{slice_index}
+use Rattle.std.proofs.Common.{◌≡◌, ℕ, zero, suc, ◌+◌, ◌-◌, ◌<◌, ◌≤◌, List, ◌++◌, length, take, drop, refl, sym, ap}
+use Rattle.std.proofs.Common.{subst, ◌∙◌, arith, le_trans, append_assoc, length-append, slice_index}
 use Rattle.std.proofs.lemmas.List.{append-nil}
 use Rattle.std.proofs.Math.Seq.{take-append_seam, drop-append_seam}
-use Rattle.race_model.specs.Positions.{pips}
-use Rattle.race_model.specs.Ranks.{at_rank, count_to}
-use Rattle.race_model.specs.Versions.{Version, full, compact, greatest_bound}
-use Rattle.race_model.specs.Files.{IsBytes, IsFile, header, bytes_at, version_of, bound_of}
-use Rattle.race_model.specs.Files.{record_place, told_record, record_at, mean_of, play_of, share_of}
-use Rattle.race_model.specs.Files.{mean_at, play_at, spread_at}
+use Rattle.race_model.specs.Prelude.{pips, at_rank, count_to, Version, full, compact, greatest_bound, IsBytes, IsFile}
+use Rattle.race_model.specs.Prelude.{header, bytes_at, version_of, bound_of, record_place, told_record, record_at}
+use Rattle.race_model.specs.Prelude.{mean_of, play_of, share_of, mean_at, play_at, spread_at}
 use Rattle.race_model.proofs.RightFiles.Places.{length_at, record_place-first, record_place-next}
 use Rattle.race_model.proofs.RightFiles.Right.{greatest_bound-most}
 use Rattle.db_layout.specs.Records.{IsRecordOf}
@@ -75,7 +70,7 @@ unfolding version_of
 file-version full bound bytes n = refl
 file-version compact bound bytes n = refl
 
--- .. and its bound
+-- the file states its bound
 pub file-bound : (version : Version) (bound : ℕ) (bytes : ℕ → List ℕ) (n : ℕ) → bound ≤ 58 →
     bound_of (file_of version bound bytes n) ≡ bound
 unfolding bound_of

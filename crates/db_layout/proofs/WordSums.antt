@@ -1,16 +1,11 @@
 -- Words of the counts of accepted records, and their sums over the rolls.
-use Rattle.std.proofs.Common.{◌≡◌, ◌⊎◌, ⊎_elim, ℕ, zero, suc, cond, ◌+◌, ◌-◌, ◌*◌, ◌/◌, ◌^◌, ◌<◌, ◌≤◌}
-use Rattle.std.proofs.Common.{◌∷◌, [], eq-eqb, List, length, refl, subst, sym, ap, ap₂, ◌∙◌, arith}
-use Rattle.std.specs.Prelude.{min}
+use Rattle.std.proofs.Common.{◌≡◌, ◌⊎◌, ⊎_elim, ℕ, zero, suc, cond, ◌+◌, ◌-◌, ◌*◌, ◌/◌, ◌^◌, ◌<◌, ◌≤◌, ◌∷◌, [], eq-eqb}
+use Rattle.std.proofs.Common.{List, length, refl, subst, sym, ap, ap₂, ◌∙◌, arith, min}
 use Rattle.std.specs.Int.{w64, from_be_bytes}
 use Rattle.std.proofs.Math.Nat.{pow-le-pow_right}
 use Rattle.std.proofs.lemmas.Bool.{le-leb, lt-leb, ne_eqb}
-use Rattle.race_model.specs.Positions.{pips}
-use Rattle.race_model.specs.Dice.{roll_index, weighted}
-use Rattle.race_model.specs.Horizon.{most_rolls}
-use Rattle.race_model.specs.Ranks.{at_rank}
-use Rattle.race_model.specs.Files.{bytes_at}
-use Rattle.race_model.specs.BoardFiles.{Parts, board_length, board_record, count_place, count_parts, count_at}
+use Rattle.race_model.specs.Prelude.{pips, roll_index, weighted, most_rolls, at_rank, bytes_at, Parts, board_length}
+use Rattle.race_model.specs.Prelude.{board_record, count_place, count_parts, count_at}
 use Rattle.race_model.proofs.RightFiles.CountParts.{count-middle}
 use Rattle.db_layout.specs.LowerRecords.{AreLocalTo}
 use Rattle.db_layout.specs.BoardWords.{word_at, word_of}
@@ -88,7 +83,7 @@ module _ (f : List ℕ) (r : ℕ) where
 
   -- of 12 to 22 throws there are two
   module _ (j : ℕ) (few : j ≤ 10) where
-    -- .. where the record tells so many
+    -- the two words of 12 to 22 throws, where the record tells so many
     module _ (within : 12 + j ≤ most_rolls (pips (at_rank r))) where
       parts : count_parts (board_record f r) (12 + j)
           ≡ record {
@@ -145,7 +140,7 @@ module _ (f : List ℕ) (r : ℕ) where
       word_at f r (suc i) ≡ 0
   word-past i lt beyond = word-beyond i (omega (arith, lt, beyond))
 
-  -- .. of which there are some where the position needs a roll
+  -- words stand in the bytes of the counts exactly where the position needs a roll
   words-none : words_length (board_length (pips (at_rank r))) ≡ 0 → pips (at_rank r) ≡ 0
   words-none none = most_rolls-none (pips (at_rank r)) (omega (arith, none))
 

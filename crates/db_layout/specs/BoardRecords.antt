@@ -1,4 +1,4 @@
--- What is stored for one position. Source: this project's profile.
+-- What is stored for one position.
 use Rattle.std.specs.Prelude.{◌≡◌, ℕ, List, length, take}
 
 -- the pip count of a position, and the bytes of its record

@@ -1,12 +1,9 @@
--- The counts of a record as words of 64 bits. Source: this project's profile.
+-- The counts of a record as words of 64 bits.
 use Rattle.std.specs.Prelude.{◌≡◌, ℕ, zero, suc, ◌+◌, ◌*◌, ◌<◌, nat_le, ◌==◌, if◌then◌else◌}
 use Rattle.std.specs.Prelude.{List, length, slice_index}
 use Rattle.std.specs.Int.{w64, from_be_bytes}
-use Rattle.race_model.specs.Positions.{pips}
-use Rattle.race_model.specs.Dice.{roll_index, weighted}
-use Rattle.race_model.specs.Ranks.{at_rank}
-use Rattle.race_model.specs.Files.{bytes_at}
-use Rattle.race_model.specs.BoardFiles.{board_record, board_length, count_at}
+use Rattle.race_model.specs.Prelude.{pips, roll_index, weighted, at_rank, bytes_at, board_record, board_length}
+use Rattle.race_model.specs.Prelude.{count_at}
 
 -- a word of the counts of at most 22 throws that are told for a rank: that of no throw, and then
 -- those that stand in its record, or 0 beyond them

@@ -1,6 +1,7 @@
 -- Which question about a header a fault answers with no.
-use Rattle.race_model.specs.Headers.{HeaderTest, long_enough, magic, version, bound, count}
-use Rattle.race_model.specs.Headers.{record_bytes, reserved, exact_length}
+use Rattle.race_model.specs.Prelude.{HeaderTest, long_enough, magic, version, bound, record_bytes, reserved}
+use Rattle.race_model.specs.Prelude.{exact_length}
+use Rattle.race_model.specs.Headers.{count}
 use Rattle.db_layout.specs.declared.header.HeaderFault.{HeaderFault}
 use Rattle.db_layout.specs.declared.header.HeaderFault.TheVariants.{TooShort, BadMagic, BadVersion, BadBound, BadCount}
 use Rattle.db_layout.specs.declared.header.HeaderFault.TheVariants.{BadRecordBytes, BadReserved, BadLength}

@@ -1,9 +1,7 @@
--- The layout of a file of a kind, by the number of its version. Source: this project's profile.
+-- The layout of a file of a kind, by the number of its version.
 use Rattle.std.specs.Prelude.{ℕ, List}
 use Rattle.std.specs.Int.{w16, from_be_bytes}
-use Rattle.race_model.specs.Versions.{version_by, record_length}
-use Rattle.race_model.specs.Files.{Layout, layout_of, bytes_at}
-use Rattle.race_model.specs.BoardFiles.{board_layout, board_length}
+use Rattle.race_model.specs.Prelude.{version_by, record_length, Layout, layout_of, bytes_at, board_layout, board_length}
 use Rattle.db_layout.specs.declared.stated.Kind.{Kind}
 use Rattle.db_layout.specs.declared.stated.Kind.TheVariants.{Database, Board}
 
@@ -12,7 +10,7 @@ abbrev pub layout_in : Kind → ℕ → Layout
 layout_in Database number = layout_of (version_by number)
 layout_in Board number = board_layout
 
--- .. and the bytes of the record of a position of p pips in it
+-- the bytes of the record of a position of p pips in the layout of a version of a kind
 abbrev pub length_in : Kind → ℕ → ℕ → ℕ
 length_in Database number = record_length (version_by number)
 length_in Board number = board_length

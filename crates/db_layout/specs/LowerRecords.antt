@@ -1,13 +1,8 @@
--- The records of a board file below a rank. Source: this project's profile.
+-- The records of a board file below a rank.
 use Rattle.std.specs.Prelude.{◌≡◌, ℕ, ◌-◌, ◌/◌, ◌^◌, ◌<◌, ◌≤◌, min, List, length, slice_index}
 use Rattle.std.specs.Int.{w128, from_be_bytes}
-use Rattle.race_model.specs.Positions.{Board, IsPosition}
-use Rattle.race_model.specs.Dice.{roll_at}
-use Rattle.race_model.specs.Plays.{Legal}
-use Rattle.race_model.specs.Ranks.{rank}
-use Rattle.race_model.specs.Files.{bytes_at}
-use Rattle.race_model.specs.BoardFiles.{board_place, board_record, mean_parts, value_of_parts}
-use Rattle.race_model.specs.BoardEquations.{IsLocalOnBoard}
+use Rattle.race_model.specs.Prelude.{Board, IsPosition, roll_at, Legal, rank, bytes_at, board_place, board_record}
+use Rattle.race_model.specs.Prelude.{mean_parts, value_of_parts, IsLocalOnBoard}
 
 -- bytes that begin as a board file does, and how many of its records they hold
 pub record Lower : Type 0 where
@@ -41,7 +36,7 @@ board_mean f r = value_of_parts (mean_parts (board_record f r))
 abbrev pub AreBelow : (ℕ → ℕ) → ℕ → Type 0
 AreBelow plays count = (i : ℕ) → i < 21 → plays i < count
 
--- .. each that of a result of its roll
+-- 21 ranks below one, by the index of the roll, each that of a result of its roll
 abbrev pub AreResults : Board → (ℕ → ℕ) → Type 0
 AreResults x plays =
     (i : ℕ) → i < 21 → (y : Board) × Legal x (roll_at i) y × (rank y ≡ plays i)

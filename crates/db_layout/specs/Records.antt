@@ -1,9 +1,8 @@
--- The bytes of a record. Source: this project's profile.
+-- The bytes of a record.
 use Rattle.std.specs.Prelude.{◌≡◌, ℕ, ◌<◌, ◌≤◌, List, ◌++◌, length, take, drop, flat_map, slice_index}
 use Rattle.std.specs.Int.{w16, w128, to_be_bytes}
-use Rattle.race_model.specs.Versions.{Version, version_by, version_number, first_share, share_count, record_length}
-use Rattle.race_model.specs.Files.{told_record, mean_of, play_of, share_of}
-use Rattle.race_model.specs.ToldShares.{told_share}
+use Rattle.race_model.specs.Prelude.{Version, version_by, version_number, first_share, share_count, record_length}
+use Rattle.race_model.specs.Prelude.{told_record, mean_of, play_of, share_of, told_share}
 
 -- a number that is one of a version
 abbrev pub IsVersion : ℕ → Type 0

@@ -1,7 +1,6 @@
--- A whole file: a header, and one record after another. Source: this project's profile.
+-- A whole file: a header, and one record after another.
 use Rattle.std.specs.Prelude.{ℕ, zero, suc, List, [], ◌++◌}
-use Rattle.race_model.specs.Versions.{Version}
-use Rattle.race_model.specs.Files.{header}
+use Rattle.race_model.specs.Prelude.{Version, header}
 
 -- the records of n ranks from a rank on, one after another
 unfoldable pub records_from : (ℕ → List ℕ) → ℕ → ℕ → List ℕ

@@ -1,9 +1,7 @@
 //! The header of a board file: its pip bound, and how many records follow.
 ghost use Rattle.std.specs.Prelude.{◌≡◌, ℕ, ◌≤◌, ◌↔◌, List, length, IsSome, IfSome, IfOk, IfErr};
-ghost use Rattle.race_model.specs.Ranks.{count_to};
-ghost use Rattle.race_model.specs.Files.{bound_of};
-ghost use Rattle.race_model.specs.BoardFiles.{board_header, board_place, IsBoardFile};
-ghost use Rattle.race_model.specs.Headers.{IsFirstBoardHeaderFault};
+ghost use Rattle.race_model.specs.Prelude.{count_to, bound_of, board_header, board_place, IsBoardFile};
+ghost use Rattle.race_model.specs.Prelude.{IsFirstBoardHeaderFault};
 ghost use Rattle.db_layout.specs.HeaderFaults.{test_of};
 
 use crate::header::HeaderFault;
@@ -58,9 +56,9 @@ impl BoardHeader {
     }
 }
 
-/// The header of a board file of these bytes, or the first fault in the order of `HeaderFault`:
-/// the version is that of a board file, its bound at most 90, and the field for the bytes of a
-/// record 0.
+/// Reads a board file's header, or finds its first fault. In the order of `HeaderFault`: the
+/// version is that of a board file, its bound at most 90, and the field for the bytes of a record
+/// 0.
 pub fn parse_board_header(file: &[u8]) -> Result<BoardHeader, HeaderFault>
     ensures header { IfOk result (λ header. IsBoardFile file.now
         × (header.bound ≡ bound_of file.now)) }

@@ -1,8 +1,6 @@
 //! The mean and the counts of a position, by the records that its plays lead to.
 ghost use Rattle.std.specs.Prelude.{◌≡◌, ℕ, ◌+◌, ◌*◌, ◌/◌, ◌^◌, ◌<◌, ◌≤◌, List, slice_index};
-ghost use Rattle.race_model.specs.Positions.{IsPosition, IsFinished};
-ghost use Rattle.race_model.specs.Dice.{roll_index, weighted};
-ghost use Rattle.race_model.specs.BoardFiles.{count_at, count_place};
+ghost use Rattle.race_model.specs.Prelude.{IsPosition, IsFinished, roll_index, weighted, count_at, count_place};
 ghost use Rattle.fixed_fraction.specs.Board.{part};
 ghost use Rattle.db_layout.specs.LowerRecords.{AreBelow, AreResults, board_mean};
 ghost use Rattle.db_layout.specs.BoardWords.{AreWordSums};
@@ -41,10 +39,10 @@ fn sum_of_means(lower: &LowerRecords<'_>, plays: &[u16; 21]) -> LongSum
     sum
 }
 
-/// Of the sequences of k + 1 throws, how many end the game of 21 plays with the last one: the
-/// counts of what they lead to at k throws, added up; to 22 throws these sums are given, word by
-/// word. To 11 throws the upper part is 0, to 22 it has one word, and from 12 throws on the lower
-/// part is less than 36 ^ 11.
+/// Counts the sequences of k + 1 throws that end with the last one. They begin with one of the 21
+/// plays: the counts of what they lead to at k throws, added up; to 22 throws these sums are
+/// given, word by word. To 11 throws the upper part is 0, to 22 it has one word, and from 12
+/// throws on the lower part is less than 36 ^ 11.
 #[inline(always)]
 pub fn count_of(lower: &LowerRecords<'_>, plays: &[u16; 21], words: &[u64; WORDS], k: u8) -> Parts
     requires few { k < 33 }
@@ -110,17 +108,16 @@ fn sum_of_long(lower: &LowerRecords<'_>, plays: &[u16; 21], k: u8) -> LongSum
     ensures { result.sum
         ≡ weighted (λ v. count_at lower.now.bytes (slice_index plays.now (roll_index v)) k) }
 {
-    let records = lower.again();
     let place = count_place(k);
     let mut counts = [LongCount::NONE; 21];
     for index in 0..21 {
-        counts[index] = long(&records, plays[index], k, place);
+        counts[index] = long(lower, plays[index], k, place);
     }
     sum_of(&counts)
 }
 
-/// The count of 23 to 33 throws that the record of a rank tells, which begins at a place in it, and
-/// none of more throws than a game from there can take.
+/// The count of k throws, 23 to 33, at a place in a record. It is 0 for more throws than a game
+/// from there can take.
 #[inline(always)]
 fn long(lower: &LowerRecords<'_>, rank: u16, k: u8, place: usize) -> LongCount
     requires many { 23 ≤ k }

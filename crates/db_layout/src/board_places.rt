@@ -1,6 +1,6 @@
 //! How long the records of a board file are, and where in them each count stands.
 ghost use Rattle.std.specs.Prelude.{◌≡◌, ◌≤◌};
-ghost use Rattle.race_model.specs.BoardFiles.{count_place, board_length};
+ghost use Rattle.race_model.specs.Prelude.{count_place, board_length};
 
 use crate::places::most_rolls;
 

@@ -1,9 +1,7 @@
 //! The bytes of a record of a board file, and a view that reads its mean, its plays and its counts.
 ghost use Rattle.std.specs.Prelude.{◌≡◌, ◌+◌, ◌<◌, ◌≤◌, ◌↔◌, length, IsSome, IfSome};
-ghost use Rattle.race_model.specs.Dice.{roll_index};
-ghost use Rattle.race_model.specs.Horizon.{most_rolls};
-ghost use Rattle.race_model.specs.BoardFiles.{count_place, board_length};
-ghost use Rattle.race_model.specs.BoardFiles.{mean_parts, board_play_of, count_parts};
+ghost use Rattle.race_model.specs.Prelude.{roll_index, most_rolls, count_place, board_length, mean_parts};
+ghost use Rattle.race_model.specs.Prelude.{board_play_of, count_parts};
 ghost use Rattle.db_layout.specs.BoardRecords.{Stored};
 
 use crate::board_places::{board_length, count_place};
@@ -19,7 +17,7 @@ pub struct Parts {
     pub lower: u64,
 }
 
-/// A record of a board file, in bytes that it borrows: nothing is copied (this project's profile).
+/// A record of a board file, in bytes that it borrows: nothing is copied.
 #[derive(Drop)]
 pub struct BoardRecord<'a> {
     bytes: &'a [u8],
@@ -67,9 +65,8 @@ impl<'a> BoardRecord<'a> {
         read_play(self.bytes, roll.index())
     }
 
-    /// The count of sequences of k throws, for k from 1 to the most rolls of the pip count. Any
-    /// numbers may stand there; to 11 throws the upper part is 0, and the lower one any number of
-    /// 64 bits.
+    /// The count of sequences of k throws, k from 1 to the most rolls. Any numbers may stand
+    /// there; to 11 throws the upper part is 0, and the lower one any number of 64 bits.
     pub fn count(&self, k: u8) -> Parts
         requires some { 1 ≤ k }
         requires few { k ≤ most_rolls self.now.pips }

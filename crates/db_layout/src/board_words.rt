@@ -13,7 +13,7 @@ use crate::record::read_long;
 /// How many words the counts of 0 to 22 throws have: one each to 11 throws, and two beyond.
 pub const WORDS: usize = 34;
 
-/// Rolls that leave nearly as many pips, five that are no doubles and a double, by their indices.
+/// Groups of rolls that leave similar pip counts, by index: five other rolls and a double.
 const GROUPS: [[u8; 6]; 3] = [
     [1, 3, 4, 6, 7, 0],
     [8, 10, 11, 12, 15, 2],
@@ -23,7 +23,7 @@ const GROUPS: [[u8; 6]; 3] = [
 /// The other doubles, by their indices.
 const OTHERS: [u8; 3] = [9, 14, 20];
 
-/// The sums of the words of the counts of what 21 plays lead to, with the weights of the rolls.
+/// The weighted sums of the words of the counts after 21 plays.
 pub fn word_sums(lower: &LowerRecords<'_>, plays: &[u16; 21]) -> [u64; WORDS]
     requires { AreBelow (slice_index plays.now) lower.now.count }
     ensures sums { AreWordSums lower.now.bytes (slice_index plays.now) result }
@@ -99,7 +99,8 @@ fn words_in<'a>(lower: &LowerRecords<'a>, rank: u16) -> &'a [u8]
     &bytes[66..bytes.len().min(330)]
 }
 
-/// Adds the words in some bytes, but the first so many, and that of no throw, as often as it says.
+/// Adds the words in some bytes, weighted. It leaves out the first ones, and adds that of no
+/// throw.
 #[inline(always)]
 fn add(sums: &mut [u64; WORDS], words: &[u8], first: usize, times: u64)
     requires few { length words.now ≤ 264 }

@@ -1,9 +1,7 @@
 //! The records of a board file, written: each number so that it reads back.
 ghost use Rattle.std.specs.Prelude.{◌≡◌, ℕ, ◌+◌, ◌*◌, ◌/◌, ◌%◌, ◌^◌, ◌<◌, ◌≤◌, length, drop, slice_index};
 ghost use Rattle.std.specs.Int.{w16, w64, w128, from_be_bytes};
-ghost use Rattle.race_model.specs.Files.{bytes_at};
-ghost use Rattle.race_model.specs.BoardFiles.{count_place};
-ghost use Rattle.race_model.specs.BoardFiles.{mean_parts, board_play_of, count_parts};
+ghost use Rattle.race_model.specs.Prelude.{bytes_at, count_place, mean_parts, board_play_of, count_parts};
 ghost use Rattle.fixed_fraction.specs.Board.{part};
 ghost use Rattle.db_layout.specs.BoardRecords.{KeepsBefore};
 
@@ -23,8 +21,7 @@ pub fn put_mean(bytes: &mut [u8], mean: BoardMean)
     put_long(bytes, 16, mean.lower());
 }
 
-/// Writes the ranks that are played to with the rolls 0 to 20 where they stand in the bytes of a
-/// record; all other bytes stay.
+/// Writes the ranks after the plays of rolls 0 to 20 into a record; all other bytes stay.
 pub fn put_plays(bytes: &mut [u8], plays: &[u16; 21])
     requires { 66 ≤ length bytes.old }
     ensures before { KeepsBefore 24 bytes.old bytes.new }

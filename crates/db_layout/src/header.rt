@@ -1,12 +1,9 @@
 //! The header of a database file: its version and its pip bound, written and read.
 ghost use Rattle.std.specs.Prelude.{◌≡◌, ℕ, ◌+◌, ◌*◌, ◌^◌, ◌<◌, ◌≤◌, ◌↔◌, List, length};
 ghost use Rattle.std.specs.Prelude.{slice_index, IsTrue, IsSome, IfSome, IfOk, IfErr};
-ghost use Rattle.race_model.specs.Positions.{pips};
-ghost use Rattle.race_model.specs.Ranks.{at_rank, count_to};
-ghost use Rattle.race_model.specs.Versions.{version_by, greatest_bound, stated_length, record_length};
-ghost use Rattle.race_model.specs.Files.{version_of, bound_of, record_place};
-ghost use Rattle.race_model.specs.ToldShares.{told_share};
-ghost use Rattle.race_model.specs.Headers.{IsHeader, IsFirstHeaderFault};
+ghost use Rattle.race_model.specs.Prelude.{pips, at_rank, count_to, version_by, greatest_bound, stated_length};
+ghost use Rattle.race_model.specs.Prelude.{record_length, version_of, bound_of, record_place, told_share, IsHeader};
+ghost use Rattle.race_model.specs.Prelude.{IsFirstHeaderFault};
 ghost use Rattle.db_layout.specs.HeaderFaults.{test_of};
 ghost use Rattle.db_layout.specs.Records.{IsVersion, IsHeld};
 
@@ -53,7 +50,7 @@ pub enum HeaderFault {
 
 /// The header of a database: its version, its pip bound, how many records follow, and how many
 /// bytes each has where that is one number, else 0. It is always that of a database of version 1
-/// and at most 44 pips, or of version 2 and at most 58 (this project's profile).
+/// and at most 44 pips, or of version 2 and at most 58.
 #[derive(Clone, Copy, Debug, PartialEq, Eq)]
 pub struct Header {
     pub version: u16,
@@ -151,8 +148,8 @@ fn is_told(version: u16, pips: u8, k: u8, spread: &Spread) -> bool
     k <= most_rolls(pips) || spread.at(k) == 0
 }
 
-/// The header that stands in the first bytes of a file of this
-/// length, or the first fault in the order of `HeaderFault`.
+/// Reads a header, or finds its first fault in the order of `HeaderFault`. The bytes are the first
+/// ones of a file of this length.
 #[tactic(auto, unfolding(race_model::specs::Files::bound_of, race_model::specs::Files::version_of))]
 pub fn parse_header(front: &[u8], length: u64) -> Result<Header, HeaderFault>
     ensures header { IfOk result (λ header. IsHeader front.now length

@@ -19,7 +19,7 @@ pub use record::{HEADER_BYTES, RECORD_BYTES, RecordView, read_short};
 pub use stated::{BOARD_BOUND, BOARD_VERSION, COMPACT_VERSION, Kind, VERSION};
 pub use stored_shares::StoredShares;
 pub use write_fault::WriteFault;
-pub use writing::{header_bytes, record_bytes, write_bytes, write_header, write_record};
+pub use writing::{header_bytes, put_record_bytes, write_bytes, write_header, write_record};
 
 pub mod board_header;
 pub mod board_numbers;
@@ -33,6 +33,5 @@ pub mod places;
 pub mod record;
 pub mod stated;
 pub mod stored_shares;
-pub mod trial;
 pub mod write_fault;
 pub mod writing;

@@ -1,11 +1,7 @@
 //! The records of lower rank, in bytes that begin as a board file does.
 ghost use Rattle.std.specs.Prelude.{◌≡◌, ℕ, ◌+◌, ◌<◌, ◌≤◌, List, length, slice_index};
-ghost use Rattle.race_model.specs.Positions.{pips};
-ghost use Rattle.race_model.specs.Ranks.{at_rank};
-ghost use Rattle.race_model.specs.Files.{bytes_at};
-ghost use Rattle.race_model.specs.BoardFiles.{board_length, board_place, board_record};
-ghost use Rattle.race_model.specs.BoardEquations.{IsLocalOnBoard};
-ghost use Rattle.least_plays.specs.Firsts.{IsBetterOf};
+ghost use Rattle.race_model.specs.Prelude.{pips, at_rank, bytes_at, board_length, board_place, board_record};
+ghost use Rattle.race_model.specs.Prelude.{IsLocalOnBoard};
 ghost use Rattle.db_layout.specs.LowerRecords.{Lower, AreRecords, AreLocalTo, board_mean, leading_at};
 
 use crate::board_places::board_length;
@@ -15,8 +11,8 @@ use least_plays::RankedMeans;
 use ranking::pips_of;
 use std::marker::Model;
 
-/// How many bytes stand before each of the first `count` records of a board file, of `COUNT` at
-/// most, and the leading bits of its mean, both by rank. What stands beyond these says nothing.
+/// The offsets of a board file's first records and the leading bits of their means. There are
+/// `count` of them, at most `COUNT`, by rank. What stands beyond these says nothing.
 #[derive(Drop)]
 pub struct RecordStarts<const COUNT: usize> {
     pub offsets: [u32; COUNT],
@@ -73,10 +69,10 @@ impl<const COUNT: usize> RecordStarts<COUNT> {
     }
 }
 
-/// The records of the lowest ranks of a board file, which meet their equations, with where each
-/// begins and the leading bits of its mean (`leading_bits`). No other number is copied, so each is
-/// read anew. Where another thread changes the bytes all the same, a number is of any kind, and the
-/// sums of such numbers are: no call ends the program then.
+/// A board file's lowest records, which meet their equations. Each has its offset and the leading
+/// bits of its mean (`leading_bits`). No other number is copied, so each is read anew. Where
+/// another thread changes the bytes all the same, a number is of any kind, and the sums of such
+/// numbers are: no call ends the program then.
 #[derive(Drop)]
 pub struct LowerRecords<'a> {
     bytes: &'a [u8],
@@ -105,20 +101,6 @@ impl<'a> LowerRecords<'a> {
         ensures local { AreLocalTo self.now.bytes self.now.count }
     {
         self.count
-    }
-
-    /// The same records, for a loop that writes elsewhere: so the compiler knows that it doesn't
-    /// change where they lie.
-    #[inline(always)]
-    pub(crate) fn again(&self) -> LowerRecords<'a>
-        ensures { result ≡ self.now }
-    {
-        LowerRecords {
-            bytes: self.bytes,
-            offsets: self.offsets,
-            leading: self.leading,
-            count: self.count,
-        }
     }
 
     /// Where the record of a rank ends.
@@ -155,20 +137,6 @@ impl<'a> LowerRecords<'a> {
         let lower = read_long(self.bytes, offset + 16);
         BoardMean::of_parts(upper, lower)
     }
-
-    /// Of two ranks the better one, by all bits of their means.
-    #[inline(never)]
-    fn better_by_all(&self, one: u16, other: u16) -> u16
-        requires one { one < self.now.count }
-        requires other { other < self.now.count }
-        ensures { IsBetterOf (board_mean self.now.bytes) one other result }
-    {
-        if self.is_less(one, other) || (one < other && !self.is_less(other, one)) {
-            one
-        } else {
-            other
-        }
-    }
 }
 
 /// The leading bits of the mean of the record that begins at a place: of two means the one with
@@ -190,9 +158,11 @@ fn part_of(bytes: &[u8], place: usize, count: usize) -> &[u8]
     &bytes[place..place + count]
 }
 
-/// They are what the best plays go by: the leading bits of two means nearly always tell.
+/// They are what the best plays go by.
 impl<'a> RankedMeans for LowerRecords<'a> {
     ghost mean = { λ lower. board_mean lower.bytes };
+
+    ghost leading = { λ lower rank. leading_at lower.bytes (board_place rank) };
 
     ghost count = { λ lower. lower.count };
 
@@ -201,17 +171,7 @@ impl<'a> RankedMeans for LowerRecords<'a> {
     }
 
     #[inline(always)]
-    fn better(&self, one: u16, other: u16) -> u16 {
-        let here = self.leading[usize::from(one)];
-        let there = self.leading[usize::from(other)];
-        if here < there {
-            one
-        } else if there < here {
-            other
-        } else if one == other {
-            one
-        } else {
-            self.better_by_all(one, other)
-        }
+    fn leading_bits(&self, rank: u16) -> u64 {
+        u64::from(self.leading[usize::from(rank)])
     }
 }

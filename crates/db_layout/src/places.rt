@@ -1,10 +1,7 @@
 //! Where the records of a file stand, by numbers that are the same for each file of a version.
 ghost use Rattle.std.specs.Prelude.{◌≡◌, ℕ, ◌+◌, ◌<◌, ◌≤◌};
-ghost use Rattle.race_model.specs.Positions.{pips};
-ghost use Rattle.race_model.specs.Ranks.{at_rank, first_of, count_to};
-ghost use Rattle.race_model.specs.Horizon.{most_rolls};
-ghost use Rattle.race_model.specs.Versions.{version_by, full, first_share, share_count, record_length};
-ghost use Rattle.race_model.specs.Files.{record_place};
+ghost use Rattle.race_model.specs.Prelude.{pips, at_rank, first_of, count_to, most_rolls, version_by, full};
+ghost use Rattle.race_model.specs.Prelude.{first_share, share_count, record_length, record_place};
 ghost use Rattle.db_layout.specs.Layouts.{layout_in, length_in};
 
 use crate::board_places::board_length;
@@ -69,8 +66,8 @@ impl Header {
 }
 
 impl Kind {
-    /// Where the record of a rank stands in a file of a version of this kind, which goes to a
-    /// bound: one search among the pip counts.
+    /// Finds the record of a rank in a file of this kind, version and bound: one search among the
+    /// pip counts.
     pub fn find(self, version: u16, bound: u8, rank: u16) -> Place
         requires bound { bound ≤ (layout_in self version).greatest }
         requires rank { rank < count_to bound }
@@ -97,8 +94,9 @@ impl Kind {
         self.offset_of(version, bound, ranking::count_to(bound))
     }
 
-    /// Where the records of a version from a rank on begin, which is that of a position of so
-    /// many pips, or the next one: at most 58 pips in a database, and 90 in a board file.
+    /// The offset of a rank's record, or of the end of the rank before. The rank is that of a
+    /// position of `pips` pips, or the next one: at most 58 pips in a database, and 90 in a board
+    /// file.
     pub fn offset_of(self, version: u16, pips: u8, rank: u16) -> u64
         requires low { pips ≤ (layout_in self 2).greatest }
         requires from { first_of pips ≤ rank }
@@ -113,7 +111,7 @@ impl Kind {
         self.start_of(pips) + earlier * u64::from(self.length_of(version, pips))
     }
 
-    /// Where the records of a pip count begin, in a database of version 2 or in a board file.
+    /// The offset of a pip count's first record, for version 2 and board files.
     fn start_of(self, pips: u8) -> u64
         requires { pips ≤ (layout_in self 2).greatest }
         ensures { result ≡ (layout_in self 2).place (first_of pips) }
@@ -125,7 +123,7 @@ impl Kind {
         }
     }
 
-    /// How many bytes the record of a position of so many pips has in a file of a version.
+    /// The size in bytes of the record of a position of `pips` pips.
     fn length_of(self, version: u16, pips: u8) -> u32
         requires { pips ≤ 90 }
         ensures { result ≡ length_in self version pips }

@@ -1,27 +1,23 @@
 //! The bytes of a record, and a view that reads its mean, its plays and its shares.
 ghost use Rattle.std.specs.Prelude.{◌≡◌, ℕ, ◌+◌, ◌-◌, ◌*◌, ◌^◌, ◌<◌, ◌≤◌, ◌↔◌, List, length, IsSome, IfSome};
-ghost use Rattle.race_model.specs.Dice.{roll_index};
-ghost use Rattle.race_model.specs.Versions.{version_by, first_share, record_length};
-ghost use Rattle.race_model.specs.Files.{bytes_at, told_record, mean_of, play_of, share_of};
-ghost use Rattle.race_model.specs.ToldShares.{told_share};
+ghost use Rattle.race_model.specs.Prelude.{roll_index, version_by, first_share, record_length, bytes_at, told_record};
+ghost use Rattle.race_model.specs.Prelude.{mean_of, play_of, share_of};
 ghost use Rattle.std.specs.Int.{w16, w32, w64, w128, from_be_bytes};
 ghost use Rattle.db_layout.specs.StoredShares.{share_by};
 
 use crate::header::Header;
-use crate::places::{first_share, most_rolls, record_length, share_count};
-use crate::stated::COMPACT_VERSION;
+use crate::places::{first_share, record_length};
 use crate::stored_shares::StoredShares;
-use fixed_fraction::WHOLE;
 use legal_plays::Roll;
 use std::marker::Model;
 
-/// How many bytes a header has (this project's profile).
+/// How many bytes a header has.
 pub const HEADER_BYTES: usize = 32;
 
-/// How many bytes a full record has, the most that any has (this project's profile).
+/// How many bytes a full record has, the most that any has.
 pub const RECORD_BYTES: usize = 426;
 
-/// A record of the database, in bytes that it borrows: nothing is copied (this project's profile).
+/// A record of the database, in bytes that it borrows: nothing is copied.
 #[derive(Drop)]
 pub struct RecordView<'a> {
     bytes: &'a [u8],
@@ -40,9 +36,9 @@ impl<'a> Model for RecordView<'a> {
 }
 
 impl<'a> RecordView<'a> {
-    /// The record of a position of so many pips in these bytes of a file with this header; none
-    /// exactly where the pips are over its bound or there are not as many bytes as such a record
-    /// has.
+    /// Views bytes as the record of a position of `pips` pips. They are from a file with this
+    /// header; none exactly where the pips are over its bound or there are not as many bytes as
+    /// such a record has.
     pub fn of(bytes: &'a [u8], header: &Header, pips: u8) -> Option<Self>
         ensures some { IsSome result
             ↔ ((pips ≤ header.now.bound)
@@ -56,8 +52,8 @@ impl<'a> RecordView<'a> {
         RecordView::of_version(bytes, header.version, pips)
     }
 
-    /// The record of a position of at most 58 pips in these bytes of a file of a version; none
-    /// exactly where there are not as many bytes as such a record has.
+    /// Views bytes as the record of a position of at most 58 pips; none exactly where there are
+    /// not as many bytes as such a record has.
     pub fn of_version(bytes: &'a [u8], version: u16, pips: u8) -> Option<Self>
         requires { pips ≤ 58 }
         ensures some { IsSome result
@@ -91,17 +87,15 @@ impl<'a> RecordView<'a> {
         read_play(self.bytes, roll.index())
     }
 
-    /// The numerator over 36 ^ 22 of the share of exactly `k` rolls, and 0 from 23 rolls on. Any
-    /// number of 128 bits may stand there, where it is stored; a share that a record of version 2
-    /// leaves out is the known one: the whole for no roll of the finished position, else 0.
+    /// The share of exactly `k` rolls, as a numerator over 36 ^ 22; 0 from 23 on. Any number of
+    /// 128 bits may stand there, where it is stored; a share that a record of version 2 leaves out
+    /// is the known one: the whole for no roll of the finished position, else 0.
     pub fn spread(&self, k: u8) -> u128
         ensures share { k ≤ 22 → result ≡ share_of self.now k }
         ensures beyond { 22 < k → result ≡ 0 }
     {
-        if k > 22 {
-            return 0;
-        }
-        tell_share(self.bytes, self.version, self.pips, k)
+        let shares = self.stored_shares();
+        if k < shares.end() { shares.at(k) } else { 0 }
     }
 
     /// The shares that it tells.
@@ -114,7 +108,7 @@ impl<'a> RecordView<'a> {
             bytes: &self.bytes[58 - 16 * usize::from(first)..],
             version: self.version,
             pips: self.pips,
-            end: first + share_count(self.version, self.pips),
+            end: first + ((self.bytes.len() - 58) / 16) as u8,
         }
     }
 }
@@ -136,36 +130,6 @@ fn read_play(bytes: &[u8], roll: u8) -> u16
     ensures { result ≡ play_of bytes.now roll }
 {
     read_short(bytes, 16 + 2 * usize::from(roll))
-}
-
-/// A share of exactly so many rolls, as the bytes of the record
-/// of a position of so many pips tell it.
-#[tactic(auto, unfolding(race_model::specs::LocalEquations::whole))]
-fn tell_share(bytes: &[u8], version: u16, pips: u8, k: u8) -> u128
-    requires long { length bytes.now ≡ record_length (version_by version) pips }
-    requires few { k ≤ 22 }
-    ensures { result ≡ told_share (version_by version) pips
-        (λ n. share_of bytes.now (n - first_share (version_by version))) k }
-{
-    if version != COMPACT_VERSION {
-        return read_share(bytes, k);
-    }
-    if k == 0 && pips == 0 {
-        return WHOLE;
-    }
-    if k == 0 || k > most_rolls(pips) {
-        return 0;
-    }
-    read_share(bytes, k - 1)
-}
-
-/// A share that stands at a place among those in the bytes of a record.
-#[tactic(auto, unfolding(race_model::specs::Files::share_of))]
-fn read_share(bytes: &[u8], place: u8) -> u128
-    requires { 58 + 16 * place + 16 ≤ length bytes.now }
-    ensures { result ≡ share_of bytes.now place }
-{
-    read_wide(bytes, 58 + 16 * usize::from(place))
 }
 
 /// The number in the 16 bytes from a place on, high byte first.

@@ -1,7 +1,6 @@
 //! What the header of a file states, of any version: read, and written.
 ghost use Rattle.std.specs.Prelude.{◌≡◌, ◌↔◌, IsSome, IfSome, IfOk, IfErr};
-ghost use Rattle.race_model.specs.Files.{bound_of, header_by};
-ghost use Rattle.race_model.specs.Headers.{HeaderTest, HeaderHoldsBy, IsFirstHeaderFaultBy};
+ghost use Rattle.race_model.specs.Prelude.{bound_of, header_by, HeaderTest, HeaderHoldsBy, IsFirstHeaderFaultBy};
 ghost use Rattle.db_layout.specs.HeaderFaults.{test_of};
 ghost use Rattle.db_layout.specs.Layouts.{layout_in, number_of};
 
@@ -9,17 +8,16 @@ use crate::header::HeaderFault;
 use crate::record::{HEADER_BYTES, read_short, read_word};
 use home_board::{MAX_BOUND, OLD_BOUND};
 
-/// The first eight bytes of a file (this project's profile).
+/// The first eight bytes of a file.
 const MAGIC: [u8; 8] = *b"EPCTABLE";
 
-/// The version of a file whose records store all shares (this project's profile).
+/// The version of a file whose records store all shares.
 pub const VERSION: u16 = 1;
 
-/// The version of a file whose records leave out the
-/// shares that are known without being stored (this project's profile).
+/// The version whose records leave out shares that are known without being stored.
 pub const COMPACT_VERSION: u16 = 2;
 
-/// The version in the header of a board file (this project's profile).
+/// The version in the header of a board file.
 pub const BOARD_VERSION: u16 = 3;
 
 /// The greatest pip bound of a board file: that of fifteen checkers on the six point.
@@ -68,8 +66,8 @@ pub struct Stated {
     pub bound: u8,
 }
 
-/// What the first bytes of a file of this length and this kind state, or the first fault in the
-/// order of `HeaderFault`.
+/// Reads what a header states, or finds its first fault in the order of `HeaderFault`. The bytes
+/// are the first ones of a file of this length and kind.
 #[tactic(auto, unfolding(race_model::specs::Files::bound_of))]
 pub(crate) fn read_header(kind: Kind, front: &[u8], length: u64) -> Result<Stated, HeaderFault>
     ensures header { IfOk result (λ stated. (t : HeaderTest) →

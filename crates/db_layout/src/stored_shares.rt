@@ -1,12 +1,12 @@
 //! The shares that a record tells, for whoever reads those of several records side by side.
 ghost use Rattle.std.specs.Prelude.{◌≡◌, ℕ, ◌+◌, ◌*◌, ◌<◌, ◌≤◌, length};
-ghost use Rattle.race_model.specs.Versions.{version_by, first_share, share_count};
+ghost use Rattle.race_model.specs.Prelude.{version_by, first_share, share_count};
 
 use crate::record::read_wide;
 use crate::stated::COMPACT_VERSION;
 use fixed_fraction::WHOLE;
 
-/// The shares that a record tells, in bytes that are borrowed (this project's profile).
+/// The shares that a record tells, in bytes that are borrowed.
 #[derive(Clone, Copy)]
 pub struct StoredShares<'a> {
     // the share of k rolls is the k-th one of 16 bytes, whether or not that of no roll is stored

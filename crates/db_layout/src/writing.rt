@@ -2,8 +2,7 @@
 ghost use Rattle.std.specs.Prelude.{◌≡◌, ℕ, ◌+◌, ◌*◌, ◌<◌, ◌≤◌, List, ◌++◌, length, OnOk, OnErr};
 ghost use Rattle.arrayvec.specs.ArrayVec.{array_vec_len};
 ghost use Rattle.std.specs.Io.KnownBytes.{Appends};
-ghost use Rattle.race_model.specs.Versions.{Version, version_by};
-ghost use Rattle.race_model.specs.Files.{header as header_of};
+ghost use Rattle.race_model.specs.Prelude.{Version, version_by, header as header_of};
 ghost use Rattle.db_layout.specs.Records.{record_of, IsHeld, IsRecordOf};
 ghost use Rattle.db_layout.specs.Writes.{AppendsPart};
 ghost use Rattle.std.specs.Int.{w128, to_be_bytes};
@@ -51,14 +50,13 @@ pub fn write_record<W: Write>(
         mean plays.now spread.now }
 {
     law_record(mean, plays, spread);
-    write_bytes(
-        record_bytes(header, pips, mean, plays, spread).as_slice(),
-        writer,
-    )
+    let mut bytes = ArrayVec::new();
+    put_record_bytes(&mut bytes, header, pips, mean, plays, spread);
+    write_bytes(bytes.as_slice(), writer)
 }
 
-/// The bytes of a record of either version, read again, give the mean,
-/// the ranks and the shares that were written, where no share is lost.
+/// A record that is written and read again keeps its numbers. They are the mean, the ranks and the
+/// shares, if the version can store all of these.
 fn law_record(mean: Scaled, plays: &[u16; 21], spread: &Spread)
     ensures { (version : Version) (p : ℕ) → p ≤ 58 → IsHeld version p spread.now →
         IsRecordOf version p (record_of version p mean plays.now spread.now)
@@ -94,27 +92,27 @@ pub fn header_bytes(header: &Header) -> [u8; HEADER_BYTES]
 
 /// The bytes of the record of a position of so many pips: the mean, the ranks that are played to
 /// with the rolls 0 to 20, and the shares of 0 to 22 rolls that such a record stores.
-pub fn record_bytes(
+pub fn put_record_bytes(
+    bytes: &mut ArrayVec<u8, RECORD_BYTES>,
     header: &Header,
     pips: u8,
     mean: Scaled,
     plays: &[u16; 21],
     spread: &Spread,
-) -> ArrayVec<u8, RECORD_BYTES>
+)
     requires low { pips ≤ header.now.bound }
-    ensures { result.items
+    ensures { bytes.new.items
         ≡ record_of (version_by header.now.version) pips mean plays.now spread.now }
 {
-    let mut bytes = ArrayVec::new();
-    add_bytes(&mut bytes, &be_bytes(mean.numerator()));
+    bytes.clear();
+    add_bytes(bytes, &be_bytes(mean.numerator()));
     for play in plays {
-        add_bytes(&mut bytes, &play.to_be_bytes());
+        add_bytes(bytes, &play.to_be_bytes());
     }
     let first = first_share(header.version);
     for place in 0..share_count(header.version, pips) {
-        add_bytes(&mut bytes, &be_bytes(spread.at(first + place)));
+        add_bytes(bytes, &be_bytes(spread.at(first + place)));
     }
-    bytes
 }
 
 /// The 16 bytes of a number, high byte first, by two of 64 bits: a compiler turns those round at

@@ -13,7 +13,7 @@ err-same e = cc
 pub rose_nowhere : (n : ℕ) → RoseWhere ⊥ n n
 rose_nowhere n = record { rose = λ no. absurd no; same = λ _. refl }
 
--- .. and goes with the second of two calls where none failed in the first
+-- the count goes with the second of two calls where none failed in the first
 pub rose_then : {One Two : Type 0} {a b c : ℕ} → RoseWhere One a b → ¬ One → RoseWhere Two b c
     → RoseWhere Two a c
 rose_then {One} {Two} {a} {b} {c} first fine second =
@@ -32,7 +32,7 @@ module _ {T : Type 0} {g : Ghosts T} where
   pub table_first : (t : T) → TableStays g t t ⊥
   table_first t = record { told = refl; accepted = refl; cause = λ _ _. rose_nowhere _ }
 
-  -- .. and so do two calls where no read failed in the first
+  -- two calls leave a table as it is where no read failed in the first
   pub table_then : {a b c : T} {One Two : Type 0} → TableStays g a b One → ¬ One
       → TableStays g b c Two → TableStays g a c Two
   table_then first fine second = record {

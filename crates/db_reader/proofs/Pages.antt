@@ -1,14 +1,13 @@
 -- The records of told bytes that are kept, when one is looked up and when one is put among them.
-use Rattle.std.proofs.Common.{◌≡◌, ⊎_elim, ℕ, List, Contains, Option, Some, None, Result, Ok, Err}
-use Rattle.std.proofs.Common.{OnOk, OnErr, refl, sym, ap, subst, ◌∙◌, eqb}
+use Rattle.std.proofs.Common.{◌≡◌, ⊎_elim, ℕ, List, Contains, Option, Some, None, Result, Ok, Err, OnOk, OnErr, refl}
+use Rattle.std.proofs.Common.{sym, ap, subst, ◌∙◌, eqb, false}
 use Rattle.std.specs.Option.{IsSomeAnd}
 use Rattle.std.specs.Result.{is_err}
-use Rattle.std.specs.Prelude.{false}
 use Rattle.std.specs.Map.{lookup}
 use Rattle.std.proofs.lemmas.Bool.{eqb-true}
 use Rattle.lru.specs.LruCache.{LruCache, lru_cache, promoted, put_entries}
 use Rattle.lru.proofs.CallerLemmas.{Contains-lookup, Contains-promoted, Contains-put_entries}
-use Rattle.race_model.specs.Files.{record_at}
+use Rattle.race_model.specs.Prelude.{record_at}
 
 -- each is the record of its rank
 abbrev pub AreRecords : List ℕ → List (ℕ × List ℕ) → Type 0
@@ -41,7 +40,7 @@ put_there file cache rank bytes are is other others has = ⊎_elim
     new.1)))
     (Contains-put_entries eqb cache rank bytes (other, others) has)
 
--- .. or is not, where the growth for it is refused
+-- the record is put there, or is not, where the growth for it is refused
 pub after_put : {T E : Type 0} (file : List ℕ) (cache after : LruCache ℕ (List ℕ)) (rank : ℕ)
     (bytes : List ℕ)
     (result : Result T E) →
@@ -53,12 +52,6 @@ after_put file cache after rank bytes (Ok old) put kept are is =
     (put_there file cache rank bytes are is)
 after_put file cache after rank bytes (Err e) put kept are is =
     subst (λ (c : LruCache ℕ (List ℕ)). AreRecords file c.entries) (sym kept) are
-
--- a value of which something holds is there
-pub some_and : {T : Type 0} (P : T → Type 0) (o : Option T) → IsSomeAnd o P →
-    (x : T) × (o ≡ Some x) × P x
-some_and P None none = absurd none
-some_and P (Some x) holds = (x, refl, holds)
 
 -- what holds on success holds where there was no error
 pub succeeded : {T E P : Type 0} (r : Result T E) → is_err r ≡ false → OnOk r P → P

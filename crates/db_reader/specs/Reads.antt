@@ -1,9 +1,7 @@
 -- What a table answers.
 use Rattle.std.specs.Prelude.{◌≡◌, ℕ, ◌<◌, List, length, take, Option, Some, None, Result, Ok, Err}
 use Rattle.std.specs.Option.{IsSomeAnd}
-use Rattle.race_model.specs.Versions.{version_by}
-use Rattle.race_model.specs.Files.{version_of, bound_of, IsFile}
-use Rattle.race_model.specs.Headers.{IsFirstHeaderFault}
+use Rattle.race_model.specs.Prelude.{version_by, version_of, bound_of, IsFile, IsFirstHeaderFault}
 use Rattle.db_layout.specs.HeaderFaults.{test_of}
 use Rattle.db_layout.specs.declared.header.Header.{Header}
 use Rattle.db_reader.specs.declared.table.TableFault.{TableFault}

@@ -1,4 +1,4 @@
--- What a call leaves of a source, and which call of a trial fails. Source: this project's profile.
+-- What a call leaves of a source, and which call of a trial fails.
 use Rattle.std.specs.Prelude.{◌≡◌, ◌-◌, ◌==◌, true, if◌then◌else◌}
 use Rattle.db_reader.specs.Telling.{WhereTold, RoseWhere}
 use Rattle.db_reader.specs.declared.source.Source.{Ghosts}

@@ -6,8 +6,8 @@ ghost use Rattle.db_reader.specs.Reads.{IsHeaderOf};
 use crate::table::TableFault;
 use db_layout::{Header, parse_header};
 
-/// The header that stands in the first 32 bytes of a file of this length, or in all where there
-/// are fewer, or its first fault.
+/// Reads the header of a file of this length, or finds its first fault. `front` is its first 32
+/// bytes, or all if there are fewer.
 pub(crate) fn header_of(front: &[u8], size: u64) -> Result<Header, TableFault>
     ensures told { (file : List ℕ) → front.now ≡ take 32 file → size ≡ length file →
         IsHeaderOf file result }

@@ -18,6 +18,7 @@ pub mod file_source;
 mod front;
 pub mod paged;
 pub mod record;
+pub mod refused_writes;
 pub mod slice_source;
 pub mod source;
 pub mod table;

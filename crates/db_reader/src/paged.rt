@@ -1,6 +1,6 @@
 //! A table over a source that is read record by record, with the latest kept in a cache.
 ghost use Rattle.std.specs.Prelude.{◌≡◌, ◌≢◌, ℕ, ◌<◌, ◌↔◌, List, Some, None, Contains, Err, IsOk, IsErr, IfOk, IfErr};
-ghost use Rattle.race_model.specs.Files.{record_at};
+ghost use Rattle.race_model.specs.Prelude.{record_at};
 ghost use Rattle.db_layout.specs.declared.header.Header.{Header as HeaderValue};
 ghost use Rattle.db_reader.specs.Telling.{WhereTold};
 ghost use Rattle.db_reader.specs.Reads.{HasHeader, IsHeaderOf};
@@ -28,10 +28,10 @@ pub enum PagedFault {
     Memory,
 }
 
-/// The table over a source of bytes that keeps the records that were used last, at most so many
-/// of them (this project's profile). A record that is wanted and not there is read in one read,
-/// and kept unless a growth of memory for it is refused: then the answer stands all the same. It
-/// tells the bytes that the source tells, and fails where the source does.
+/// A table over a source of bytes that caches the records used last. A record that is wanted and
+/// not there is read in one read, and kept unless a growth of memory for it is refused: then the
+/// answer stands all the same. It tells the bytes that the source tells, and fails where the
+/// source does.
 #[derive(Drop)]
 pub struct Paged<S: Source, A: Allocator = Global> {
     source: S,
@@ -136,7 +136,7 @@ fn read_header<S: Source>(source: &mut S) -> Result<Header, TableFault>
     header_of(known, length)
 }
 
-/// The record of a rank, in one read of the bytes of a source that have this header.
+/// Reads the record of a rank in one read of the source.
 fn read_record<S: Source>(source: &mut S, header: Header, rank: u16) -> Result<Record, SourceFault>
     requires rank { rank < header.count }
     requires file { WhereTold (S.tells source.old) (λ file. HasHeader file header) }

@@ -1,7 +1,6 @@
 //! Room for the bytes of one record.
 ghost use Rattle.std.specs.Prelude.{◌≡◌, ◌+◌, ◌≤◌, length, replicate, IsErr, OnOk};
-ghost use Rattle.race_model.specs.Versions.{version_by, record_length};
-ghost use Rattle.race_model.specs.Files.{bytes_at, told_record};
+ghost use Rattle.race_model.specs.Prelude.{version_by, record_length, bytes_at, told_record};
 ghost use Rattle.db_reader.specs.Telling.{WhereTold};
 ghost use Rattle.db_reader.specs.SourceStays.{SourceStays};
 
@@ -21,8 +20,7 @@ pub struct Record {
 // Clauses see the full record that the bytes tell: those in front, as many as the record has.
 impl Model for Record {
     ghost use Rattle.std.specs.Prelude.{◌≡◌, ℕ, ◌≤◌, List, length, take};
-    ghost use Rattle.race_model.specs.Versions.{version_by, record_length};
-    ghost use Rattle.race_model.specs.Files.{told_record};
+    ghost use Rattle.race_model.specs.Prelude.{version_by, record_length, told_record};
 
     ghost Value = { List ℕ };
 
@@ -44,8 +42,8 @@ impl Record {
         }
     }
 
-    /// Fills the room with the record that stands at a place in the bytes of a source, a file of
-    /// a version, in one read. At a fault it may hold any bytes.
+    /// Fills the buffer with the record at a place of the source, in one read. At a fault it may
+    /// hold any bytes.
     pub(crate) fn read_from<S: Source>(
         &mut self,
         source: &mut S,

@@ -9,7 +9,7 @@ use thiserror::Error;
 #[error("the source could not be read")]
 pub struct SourceFault;
 
-/// Bytes that are read by their offset (this project's profile).
+/// Bytes that are read by their offset.
 ///
 /// A source that tells its bytes answers their number and what stands there, and a call is
 /// refused exactly where the count of failures rose in it. Of a source that tells nothing, as one
@@ -29,8 +29,8 @@ pub trait Source {
         ensures cause { WhereTold (tells self.old)
             (λ _. RoseWhere (IsErr result) (failures self.old) (failures self.new)) };
 
-    /// Fills `into` with the bytes from an offset on, which have to be there where the source
-    /// tells its bytes. At a fault `into` may hold any bytes.
+    /// Fills `into` with the bytes from an offset on. If the source's bytes are known, they must
+    /// be there. At a fault `into` may hold any bytes.
     fn read_at(&mut self, offset: u64, into: &mut [u8]) -> Result<(), SourceFault>
         requires { WhereTold (tells self.old) (λ file. offset + length into.old ≤ length file) }
         ensures stays { tells self.new ≡ tells self.old }

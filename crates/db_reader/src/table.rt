@@ -1,6 +1,6 @@
 //! A table of records, wherever its bytes are.
 ghost use Rattle.std.specs.Prelude.{◌≡◌, ℕ, ◌<◌, List, Option, Err, IsErr, OnOk, IsTrue, IsSome};
-ghost use Rattle.race_model.specs.Files.{record_at};
+ghost use Rattle.race_model.specs.Prelude.{record_at};
 ghost use Rattle.db_layout.specs.declared.header.Header.{Header as HeaderValue};
 ghost use Rattle.db_reader.specs.Telling.{WhereTold, RoseWhere};
 ghost use Rattle.db_reader.specs.Reads.{IsHeaderOf, accepted_by, HasRecord};
@@ -26,7 +26,7 @@ pub enum TableFault {
 #[error("the record could not be read")]
 pub struct ReadFault;
 
-/// Where the header and the records of a database are read (this project's profile).
+/// Where the header and the records of a database are read.
 ///
 /// A table that tells its bytes answers the header and the records of these bytes, and a call
 /// answers that it could not be read exactly where the count of failures rose in it. Of a table
@@ -45,8 +45,8 @@ pub trait Table {
     // the record of a rank can be lent, with a room of these bytes
     ghost ready: { Self → List ℕ → ℕ → Type 0 };
 
-    /// Whether the table is known to tell its bytes, so that a record is the same whenever it is
-    /// lent. One that doesn't say is not.
+    /// Whether the table's bytes are known, so that a record never changes. One that doesn't say
+    /// is not.
     fn is_told(&self) -> bool
         ensures { IsTrue result → IsSome (tells self.now) }
     {
@@ -61,9 +61,9 @@ pub trait Table {
         ensures cause { WhereTold (tells self.old) (λ _. RoseWhere
             (result ≡ Err TableFault.Read) (failures self.old) (failures self.new)) };
 
-    /// Makes the record of a rank under the count of the accepted header ready to be lent with
-    /// this room. What was ready with another room stays so. At a fault the table is as it was,
-    /// but for the count of failures.
+    /// Loads the record of a rank into this buffer, ready for `lend`. The rank is under the count
+    /// of the accepted header. What was ready with another room stays so. At a fault the table is
+    /// as it was, but for the count of failures.
     fn load(&mut self, rank: u16, room: &mut Record) -> Result<(), ReadFault>
         requires { HasRecord (accepted self.old) rank }
         ensures stays { tells self.new ≡ tells self.old }

@@ -8,7 +8,7 @@ use crate::countdown::Countdown;
 use crate::source::{Source, SourceFault};
 
 /// Another source, which fails once, at its `n`th call, and else answers as it does: for tests of
-/// what happens where one read fails (this project's profile). It tells the bytes that the other
+/// what happens where one read fails. It tells the bytes that the other
 /// source tells, and counts the other's failures and its own.
 #[derive(Drop)]
 pub struct FailAt<S> {
@@ -17,8 +17,8 @@ pub struct FailAt<S> {
 }
 
 impl<S: Source> FailAt<S> {
-    /// A source over another that fails at its `n`th call of `length` or `read_at`, which are
-    /// numbered together from 1, and never where `n` is 0. Total.
+    /// A source that fails at its `n`th call. Calls of `length` and `read_at` are numbered
+    /// together from 1; with `n` 0 none fails. Total.
     pub fn new(source: S, n: u64) -> Self
         ensures tells { ⟦<FailAt<S> as Source>⟧.tells result ≡ S.tells source }
         ensures failures { ⟦<FailAt<S> as Source>⟧.failures result ≡ S.failures source }

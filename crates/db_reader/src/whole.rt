@@ -1,8 +1,7 @@
 //! A table over the bytes of a whole database in memory.
 ghost use Rattle.std.specs.Prelude.{◌≡◌, ℕ, ◌+◌, ◌*◌, ◌<◌, ◌≤◌, Some, None, List, length, take, IfOk, IfErr, OnOk};
 ghost use Rattle.db_layout.specs.declared.header.Header.{Header as HeaderValue};
-ghost use Rattle.race_model.specs.Files.{IsFile, bound_of};
-ghost use Rattle.race_model.specs.Headers.{IsFirstHeaderFault};
+ghost use Rattle.race_model.specs.Prelude.{IsFile, bound_of, IsFirstHeaderFault};
 ghost use Rattle.db_layout.specs.HeaderFaults.{test_of};
 ghost use Rattle.db_reader.specs.Reads.{HasHeader, HasRecord};
 

@@ -11,14 +11,14 @@ use Rattle.std.proofs.Math.Nat.{dvd-mul_left_of_dvd, mod-one, eq-or-lt_of_le, dv
 use Rattle.std.proofs.Math.Nat.{mod-eq-zero_of_dvd, dvd-mul_right, dvd_trans, one-dvd}
 use Rattle.std.proofs.Math.Nat.{mul-mod_right, mod-lt, emod_pos_of_not-dvd, eq_of_mul-eq-mul_left}
 use Rattle.std.proofs.Math.Nat.{pow-succ', pow-zero, one-mul, le_of_dvd}
-use Rattle.race_model.specs.LocalEquations.{whole}
+use Rattle.race_model.specs.Prelude.{whole}
 use Rattle.fixed_fraction.specs.Ratios.{IsDivided, AreApart}
 
 -- the factors of a product in another order
 swapped : (p m v : ℕ) → p * (m * v) ≡ m * (p * v)
 swapped p m v = omega arith
 
--- .. and in a third
+-- the factors of a product in a third order
 swapped_first : (p k v : ℕ) → p * k * v ≡ k * (p * v)
 swapped_first p k v = omega arith
 
@@ -49,7 +49,7 @@ quotient_by_inverse m p v w inverse low few =
         let whole = mul-div-le (w - 1) p in
         omega (arith, most, whole)
 
--- .. and the quotient of a multiple stays there
+-- the quotient of a multiple of the number by its inverse stays within the modulus
 pub multiple_by_inverse : (k p v w : ℕ) → p * v % w ≡ 1 → 0 < p → p * k < w →
     p * k * v % w ≤ (w - 1) / p
 multiple_by_inverse k p v w inverse some low =
@@ -62,7 +62,7 @@ multiple_by_inverse k p v w inverse some low =
     same : p * k * v % w ≡ k
     same = ap (λ n. n % w) (swapped_first p k v) ∙ times_one k p v w inverse (less p k some low)
 
--- .. so that of a number that another divides
+-- the quotient of a number that another divides, by the inverse
 pub quotient_of_multiple : (m p v w : ℕ) → p * v % w ≡ 1 → m < w → p ∣ m →
     m * v % w ≤ (w - 1) / p
 quotient_of_multiple m zero v w inverse low divides = absurd (none w inverse)
@@ -89,13 +89,6 @@ divided_twice a b n d m e first second = record {
   where
     product : (f g m n a : ℕ) → g * m ≡ n → f * n ≡ a → f * g * m ≡ a
     product f g m n a inner outer = mul_assoc f g m ∙ ap (λ k. f * k) inner ∙ outer
-
--- a number that divides not both of two numbers divides not both of what they are divided to
-pub apart_divided : (p a b n d : ℕ) → IsDivided a b n d → AreApart p a b → AreApart p n d
-apart_divided p a b n d is apart both = apart (
-  subst (λ m. p ∣ m) is.over (dvd-mul_left_of_dvd p both.0 is.factor),
-  subst (λ m. p ∣ m) is.under (dvd-mul_left_of_dvd p both.1 is.factor),
-)
 
 -- what a positive number is divided to is positive
 pub divided_positive : (a b n d : ℕ) → IsDivided a b n d → 0 < b → 0 < d
@@ -125,7 +118,7 @@ low_zeros n (suc t) zeros =
     none : (a b : ℕ) → 0 * a + b ≡ b
     none a b = omega arith
 
--- .. and so is each number with as many zeros at its end
+-- each number with as many zeros at its end is a multiple of the power of two
 zeros_divide : (n t : ℕ) → n < 2 ^ 128 → t ≤ trailing_zeros w128 n → 2 ^ t * (n / 2 ^ t) ≡ n
 zeros_divide zero t low few =
     mul-div_cancel' (2 ^ t) (dvd_of_mod-eq-zero (2 ^ t) (low_zeros 0 t (λ i below. bit_at-zero i)))
@@ -156,7 +149,7 @@ none_left p n k more none both =
     let one : p ∣ 1 = subst (λ m. p ∣ m) (ap (λ m. p ^ m) none ∙ pow-zero p) both.1 in
     omega (arith, le_of_dvd (omega arith) one)
 
--- .. and then 2 divides not both
+-- a number without its zeros at the end and the other are not both even
 pub twos_apart : (a w t : ℕ) → a < 2 ^ 128 → w < 128 → t ≡ min (trailing_zeros w128 a) w →
     AreApart 2 (a / 2 ^ t) (2 ^ (w - t))
 unfolding lib.Count.count_trailing_zeros
@@ -181,7 +174,7 @@ twos_apart a w t low few is both = by_side (eq-or-lt_of_le within)
 abbrev RestsApart : ℕ → Type 0
 RestsApart p = (r s : ℕ) → 0 < r → r < p → s < p → r * s % p ≡ 0 → s ≡ 0
 
--- .. of two
+-- a product of rests of two
 rests_of_two : RestsApart 2
 rests_of_two zero s some low small e = absurd (omega arith)
 rests_of_two (suc zero) zero some low small e = refl
@@ -189,7 +182,7 @@ rests_of_two (suc zero) (suc zero) some low small e = absurd (omega (arith, e))
 rests_of_two (suc zero) (suc (suc s)) some low small e = absurd (omega arith)
 rests_of_two (suc (suc r)) s some low small e = absurd (omega arith)
 
--- .. and of three
+-- a product of rests of three
 rests_of_three : RestsApart 3
 rests_of_three zero s some low small e = absurd (omega arith)
 rests_of_three (suc zero) zero some low small e = refl
@@ -224,7 +217,7 @@ divides_other p g m rests some apart divides =
     same : p * m ≡ p * (g * (k / p))
     same = sym whole ∙ ap (λ n. g * n) (sym part) ∙ swapped g p (k / p)
 
--- .. and so with a power of it
+-- a divisor of a product with a power of such a number divides the other factor
 divides_rest : (p g n m : ℕ) → RestsApart p → 0 < p → ¬ (p ∣ g) → g ∣ p ^ n * m → g ∣ m
 divides_rest p g zero m rests some apart divides = subst (λ k. g ∣ k) (one m) divides
   where

@@ -2,14 +2,12 @@
 -- greatest that they can be.
 use Prim.Native.Nat.{◌∣◌}
 use Rattle.std.proofs.Common.{◌≡◌, ℕ, zero, suc, ◌+◌, ◌*◌, ◌%◌, ◌^◌, ◌<◌, ◌≤◌, map, refl, ap, ◌∙◌, arith, List, subst}
-use Rattle.std.proofs.Common.{sym, add-one, ◌-◌}
-use Rattle.std.specs.Prelude.{slice_index_or}
+use Rattle.std.proofs.Common.{sym, add-one, ◌-◌, slice_index_or}
 use Rattle.std.specs.Int.{IsGcd}
 use Rattle.std.specs.List.{range_with_len}
 use Rattle.std.proofs.lemmas.List.FromFn.{get_or-map-range_with_len}
 use Rattle.std.proofs.Math.Nat.{le_of_mul-le-mul_left, le_of_dvd, mod-eq_of_lt, one-le-pow, pow-succ', mul-le-mul}
-use Rattle.race_model.specs.LocalEquations.{whole}
-use Rattle.race_model.specs.Fractions.{IsFraction, IsThousandths}
+use Rattle.race_model.specs.Prelude.{whole, IsFraction, IsThousandths}
 use Rattle.fixed_fraction.specs.Board.{board_whole, part}
 use Rattle.fixed_fraction.specs.Ratios.{IsSmallRatio, IsDivided}
 use Rattle.fixed_fraction.specs.declared.fraction.TheConstants.{POWERS_OF_THREE}
@@ -26,7 +24,7 @@ lowest_fraction a b n d positive is lowest = record {
   lowest = lowest;
 }
 
--- .. and so are numbers equal to them
+-- numbers equal to those that a common factor was taken out of are the fraction
 pub fraction_is : (a b n d m e : ℕ) → 0 < b → IsDivided a b n d → IsGcd n d 1 → m ≡ n → e ≡ d →
     IsFraction a b m e
 fraction_is a b n d m e positive is lowest over under =
@@ -51,7 +49,7 @@ over_board a b c e n d m k over under is numerator denominator =
         let both : n * b * p ≡ a * d * p = ap (λ j. j * p) is.same in
         omega (arith, left, right, both)
 
--- .. whose whole is that many times 36 ^ 22
+-- 36 ^ 33 is that many times 36 ^ 22
 pub whole_of_board : whole * part ≡ board_whole
 unfolding whole
 whole_of_board = omega arith
@@ -84,7 +82,7 @@ power_at b n k table is few =
     ap (λ xs. slice_index_or xs k 0) is
     ∙ get_or-map-range_with_len (λ k. b ^ k) 0 n k k 0 few (omega arith)
 
--- .. so the powers of three
+-- the powers of three, as they stand in a table, are at their places
 pub at_power : (k : ℕ) → k < 68 → slice_index_or POWERS_OF_THREE k 0 ≡ 3 ^ k
 at_power k few = power_at 3 68 k POWERS_OF_THREE refl few
 
@@ -118,7 +116,7 @@ pub some_whole : 0 < whole
 unfolding whole
 some_whole = omega arith
 
--- .. and neither is that of effective pip counts
+-- the denominator of effective pip counts is not zero
 pub some_six : 0 < 6 * whole
 unfolding whole
 some_six = omega arith
@@ -127,7 +125,7 @@ some_six = omega arith
 pub mean_within : (rolls : ℕ) → rolls ≤ 22 * whole → rolls ≤ 180 * whole
 mean_within rolls few = omega arith
 
--- .. and so are 49/6 of them
+-- 49/6 of at most 22 rolls are at most 180 of any kind
 pub epc_within : (rolls : ℕ) → rolls ≤ 22 * whole → 49 * rolls ≤ 180 * (6 * whole)
 epc_within rolls few = omega arith
 
@@ -176,7 +174,7 @@ odd_multiple d m some = one_more d (2 * m - 1) ∙ ap (λ e. e * d) (omega (arit
     one_more : (d e : ℕ) → d * e + d ≡ (e + 1) * d
     one_more d e = omega arith
 
--- .. which has room where the number is a denominator
+-- such a multiple has room where the number is a denominator
 pub multiple_fits : (d m : ℕ) → d ≤ 6 * board_whole → m ≤ 180000 → d * (2 * m - 1) < 2 ^ 192
 multiple_fits d m short few = omega (arith, mul-le-mul short multiples)
   where
@@ -187,7 +185,7 @@ multiple_fits d m short few = omega (arith, mul-le-mul short multiples)
 pub rounds_below : (t d m : ℕ) → 0 < m → t < d * (2 * m - 1) → t + d < 2 * m * d
 rounds_below t d m some less = omega (arith, less, odd_multiple d m some)
 
--- .. and what is not, to no less
+-- what is not less than such a multiple rounds to no less
 pub rounds_above : (t d m : ℕ) → 0 < m → d * (2 * m - 1) ≤ t → 2 * m * d ≤ t + d
 rounds_above t d m some within = omega (arith, within, odd_multiple d m some)
 

@@ -4,8 +4,7 @@ use Rattle.std.proofs.Common.{map, sum_by, sum, refl, sym, ap, subst, ◌∙◌,
 use Rattle.std.proofs.lemmas.Bool.{cases_lt}
 use Rattle.std.proofs.lemmas.List.{take_all, get_or-map, get_or_past}
 use Rattle.std.proofs.lemmas.List.Sums.{sum_by-cons, sum_by_more, sum_by-take-le}
-use Rattle.race_model.specs.Dice.{Throw, one, all_rolls, roll_at, roll_index, weight, weighted}
-use Rattle.race_model.specs.LocalEquations.{whole}
+use Rattle.race_model.specs.Prelude.{Throw, one, all_rolls, roll_at, roll_index, weight, weighted, whole}
 use Rattle.race_model.proofs.Dice.RollSums.{length-all_rolls, sum_by-weight, roll_index-range}
 use Rattle.race_model.proofs.Dice.Throws.{roll_of_index}
 use Rattle.race_model.proofs.Numbers.Sums.{sum_by-map, sum_by-equal, sum_by-zero}
@@ -48,7 +47,7 @@ roll-next g i value w total lt is weighs so_far =
     ap (λ n. n * value) weighs ∙ ap (λ n. weight (roll_at i) * n) here in
     rw (roll-more (λ v. weight v * g (roll_index v)) i lt) (omega (arith, so_far, part))
 
--- .. of which none is too large
+-- one number more, of which none is too large
 module _ (g : ℕ → ℕ) (i value w total most : ℕ) (lt : i < 21) (is : value ≡ g i)
     (small : value ≤ most) (weighs : w ≡ weight (roll_at i))
     (so_far : total ≡ sum_by (λ v. weight v * g (roll_index v)) (take i all_rolls))
@@ -72,7 +71,7 @@ unfolding whole
 rolls-fit i total lt bound =
     omega (arith, roll-more weight i lt, weights-within i lt)
 
--- .. and after all rolls
+-- the sum after all rolls
 pub rolls-done : (g : Throw → ℕ) (i total : ℕ) → i ≡ 21 → total ≡ sum_by g (take i all_rolls)
     → total ≡ sum_by g all_rolls
 rolls-done g i total all is = is ∙ (ap (λ n. sum_by g (take n all_rolls)) all ∙ all-rolls g)

@@ -1,10 +1,12 @@
 -- Sums of shares, by rolls and by parts, and how large the sum of a pull may be.
 use Rattle.std.proofs.Common.{◌≡◌, ℕ, zero, suc, ◌+◌, ◌*◌, ◌<◌, ◌≤◌, List, [], ◌∷◌, sum, sum_by, take, length, get_or}
-use Rattle.std.proofs.Common.{All, refl, ap, ◌∙◌, arith, add-one, ◌^◌}
+use Rattle.std.proofs.Common.{All, refl, ap, sym, ◌∙◌, arith, add-one, ◌^◌, slice_index, below_more, get_or-set_other}
+use Rattle.std.proofs.Common.{slice_set}
+use Rattle.std.proofs.lemmas.Grind.{get_or-set_at}
 use Rattle.std.proofs.lemmas.List.{take_all}
 use Rattle.std.proofs.lemmas.List.Sums.{sum_by-cons, sum_by_more, sum_by_more_le}
 use Rattle.std.proofs.lemmas.List.Elements.{All-head, All-tail}
-use Rattle.race_model.specs.LocalEquations.{whole}
+use Rattle.race_model.specs.Prelude.{whole}
 use Rattle.fixed_fraction.specs.Totals.{weighted_share}
 use Rattle.std.proofs.Math.Nat.{mul-le-mul_left}
 
@@ -149,3 +151,12 @@ moved_whole (x ∷ ys) parts len start moved room wholes weights =
         scaled ≡ 36 * upto + blank → blank ≡ 0 → scaled ≡ shares → shares ≡ 36 * whole →
         total ≡ whole
     finish x total rest upto scaled blank shares a b c d e f g = omega arith
+
+-- numbers that are those of g below i, and one more in its place
+pub one_more_cell : (g : ℕ → ℕ) (cells : List ℕ) (i place y : ℕ) → place ≡ i → i < length cells →
+    ((k : ℕ) → k < i → slice_index cells k ≡ g k) → y ≡ g i →
+    (k : ℕ) → k < i + 1 → slice_index (slice_set cells place y) k ≡ g k
+one_more_cell g cells i place y same low were is =
+    below_more (λ k. slice_index (slice_set cells place y) k ≡ g k) i
+    (λ k under. get_or-set_other cells place k y 0 (λ e. absurd (omega arith)) ∙ were k under)
+    (get_or-set_at cells place i y 0 (sym same) (omega arith) ∙ is)

@@ -3,7 +3,6 @@ use Rattle.std.proofs.Common.{◌≡◌, ℕ, ◌+◌, ◌*◌, ◌/◌, ◌%◌
 use Rattle.std.proofs.Math.Nat.{mul-add-div_right, mul-add-mod_self_right, mul-le-mul_left}
 use Rattle.std.proofs.Math.Nat.{pow-le-pow_right, one-le-pow}
 use Rattle.std.proofs.Math.Nat.{div-div-eq-div-mul, mul-div-mul_right}
-use Rattle.std.proofs.lemmas.Grind.{pow_more}
 use Rattle.std.proofs.lemmas.Nat.{div-add-mod', pow-add}
 
 -- a word, of which three are a number
@@ -17,7 +16,7 @@ words_times : (h a b f : ℕ) →
     ≡ (h * 2 ^ 128 + (a * word + b)) * f
 words_times h a b f = omega arith
 
--- .. of which the lower two are one number
+-- a number in three words times another, of which the lower two are one number
 pub wide_times : (h l f : ℕ) →
     (h * f + (l / word * f + l % word * f / word) / word) * 2 ^ 128
     + ((l / word * f + l % word * f / word) % word * word + l % word * f % word)
@@ -43,7 +42,7 @@ step_quotient x y b some =
     sym (mul-add-div_right some (x / b * word) (x % b * word + y))
     ∙ ap (λ n. n / b) (rest_and_word x y b)
 
--- .. and its rest
+-- the rest of one step of a long division
 step_rest : (x y b : ℕ) → (x % b * word + y) % b ≡ (x * word + y) % b
 step_rest x y b =
     sym (mul-add-mod_self_right (x / b * word) b (x % b * word + y))
@@ -61,7 +60,7 @@ wide_rest h l b =
     ∙ step_rest (h * word + l / word) (l % word) b
     ∙ ap (λ (n : ℕ). n % b) (words h l)
 
--- .. and its quotient
+-- the quotient of a long division
 pub wide_quotient : (h l b : ℕ) → 0 < b →
     h / b * 2 ^ 128
     + ((h % b * word + l / word) / b * word
@@ -79,25 +78,6 @@ wide_quotient h l b some =
     joined : (q p z t n : ℕ) → q * word + p ≡ t → t * word + z ≡ n →
         q * 2 ^ 128 + (p * word + z) ≡ n
     joined q p z t n e f = omega (arith, e, f)
-
--- a power more of a factor has room where a greater one has
-pub power_fits : (n f i e : ℕ) → 0 < f → i < e → n * f ^ e < 2 ^ 192 →
-    n * f ^ i * f < 2 ^ 192
-power_fits n f i e some few room =
-    omega (arith, more, same n (f ^ i) f, ap (λ p. n * p) (pow_more f i), room)
-  where
-    more : n * f ^ (i + 1) ≤ n * f ^ e
-    more = mul-le-mul_left n (pow-le-pow_right some (omega arith))
-
-    same : (n p f : ℕ) → n * p * f ≡ n * (p * f)
-    same n p f = omega arith
-
--- .. and is the product with it
-pub power_times : (n f i : ℕ) → n * f ^ i * f ≡ n * f ^ (i + 1)
-power_times n f i = same n (f ^ i) f ∙ ap (λ p. n * p) (sym (pow_more f i))
-  where
-    same : (n p f : ℕ) → n * p * f ≡ n * (p * f)
-    same n p f = omega arith
 
 -- a number times so many twos, in its highest word and those below
 pub wide_doubled : (n s : ℕ) → s ≤ 127 →
@@ -133,9 +113,6 @@ pub ruleset of_times = (wide_times, high_fits)
 
 -- a number doubled so many times
 pub ruleset of_doubled = (high_fits, wide_doubled)
-
--- a product by a power of 36
-pub ruleset of_power = (power_fits, power_times)
 
 -- a quotient, and its rest
 pub ruleset of_divided = (wide_quotient, wide_rest)

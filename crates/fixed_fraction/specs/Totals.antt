@@ -1,7 +1,6 @@
 -- Sums over the 21 rolls of what each leads to, each counted with the weight of its roll.
 use Rattle.std.specs.Prelude.{◌≡◌, ℕ, ◌*◌, ◌≤◌, List, [], length, slice_index, slice_index_or, sum, sum_by}
-use Rattle.race_model.specs.Dice.{roll_index, weighted}
-use Rattle.race_model.specs.LocalEquations.{whole}
+use Rattle.race_model.specs.Prelude.{roll_index, weighted, whole}
 
 -- the means, and for each of 0 to 22 rolls the shares, added up
 pub record Totals : Type 0 where
@@ -18,7 +17,8 @@ pub record AreSmall (totals : Totals) : Type 0 where
 abbrev pub weighted_at : List (List ℕ) → ℕ → ℕ
 weighted_at spreads k = weighted (λ v. slice_index (slice_index_or spreads (roll_index v) []) k)
 
--- .. and the sum of those that the rolls with these indices lead to, each counted once
+-- of the shares that the rolls with these indices lead to, each counted once, the sum of those of
+-- k rolls
 abbrev pub sum_at : List (List ℕ) → List ℕ → ℕ → ℕ
 sum_at spreads indices k = sum_by (λ i. slice_index (slice_index_or spreads i []) k) indices
 

@@ -1,8 +1,7 @@
 //! A mean of the whole board as a numerator over 36 ^ 33, in two parts.
 ghost use Rattle.std.specs.Prelude.{◌≡◌, ℕ, ◌+◌, ◌*◌, ◌/◌, ◌%◌, ◌^◌, ◌<◌, ◌≤◌, ◌↔◌, IsTrue};
 ghost use Rattle.std.specs.Prelude.{IsSome, IfSome};
-ghost use Rattle.race_model.specs.Fractions.{IsThousandths};
-ghost use Rattle.race_model.specs.LocalEquations.{whole};
+ghost use Rattle.race_model.specs.Prelude.{IsThousandths, whole};
 ghost use Rattle.fixed_fraction.specs.Board.{board_whole, part};
 
 use crate::parts::{PART, are_parts};
@@ -65,6 +64,14 @@ impl BoardMean {
         BoardMean { upper, lower }
     }
 
+    /// A number over 36 ^ 22, which has no lower part.
+    #[inline(always)]
+    pub fn of(rolls: Scaled) -> Self
+        ensures { result ≡ rolls * part }
+    {
+        BoardMean::of_parts(rolls.numerator(), 0)
+    }
+
     /// The upper part, over 36 ^ 22.
     pub fn upper(self) -> u128
         ensures value { result ≡ self / part }
@@ -125,8 +132,7 @@ impl BoardMean {
         Some(BoardMean { upper, lower })
     }
 
-    /// The number in thousandths of a roll, rounded to the nearest, and a half upward (this
-    /// project's profile).
+    /// The number in thousandths of a roll, rounded half up.
     pub fn thousandths(self) -> u64
         ensures { IsThousandths self board_whole result }
     {
@@ -146,8 +152,7 @@ impl BoardMean {
     }
 }
 
-/// Two parts over so many wholes of 36 ^ 22 in thousandths, rounded to the nearest, and a half
-/// upward.
+/// Two parts over `whole` times 36 ^ 22, in thousandths, rounded half up.
 fn rounded(upper: u128, lower: u64, whole: u128) -> u64
     requires positive { 0 < whole }
     requires short { whole ≤ 6 * 36 ^ 22 }

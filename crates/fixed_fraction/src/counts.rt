@@ -1,16 +1,17 @@
 //! Counts of sequences of throws, in one word or in two parts. A count is no share: over 36 ^ 33
 //! the share of k rolls is the count times 36 ^ (33 - k).
 ghost use Rattle.std.specs.Prelude.{◌≡◌, ℕ, ◌+◌, ◌-◌, ◌*◌, ◌/◌, ◌%◌, ◌^◌, ◌<◌, ◌≤◌, ◌↔◌};
-ghost use Rattle.std.specs.Prelude.{IsSome, IfSome};
+ghost use Rattle.std.specs.Prelude.{IsTrue, IsSome, IfSome};
 ghost use Rattle.fixed_fraction.specs.Board.{part};
 
+use crate::board_mean::BoardMean;
 use crate::parts::{PART, are_count_parts, power_of_36};
 use crate::roll_sum::{LongSum, Summand};
 use crate::wide::Wide;
 use std::marker::Model;
 
-/// How many sequences of k throws end the game with their last throw, for k from 0 to 11: at most
-/// 36 ^ 11, in one word.
+/// A count of sequences of k throws, 0 to 11, that end with the last throw: at most 36 ^ 11, in
+/// one word.
 #[derive(Clone, Copy, Debug, PartialEq, Eq)]
 pub struct ShortCount {
     count: u64,
@@ -109,6 +110,13 @@ impl LongCount {
         self.lower
     }
 
+    /// Whether no sequence is counted.
+    pub fn is_none(self) -> bool
+        ensures { IsTrue result ↔ (self ≡ 0) }
+    {
+        self.upper == 0 && self.lower == 0
+    }
+
     /// The count as a number of 192 bits.
     pub fn number(self) -> Wide
         ensures { result ≡ self }
@@ -118,14 +126,37 @@ impl LongCount {
 
     /// The share of exactly `k` rolls over 36 ^ 33: each of so many sequences of k throws goes on
     /// with any throws, to 33 of them.
-    #[tactic(auto, using(crate::proofs::TwoParts::share_within))]
-    pub fn share(self, k: u8) -> Wide
+    pub fn share(self, k: u8) -> BoardMean
         requires few { k ≤ 33 }
         requires within { self ≤ 36 ^ k }
         ensures { result ≡ self * 36 ^ (33 - k) }
     {
-        self.number().times_power(36, u32::from(33 - k))
+        if k <= 22 {
+            return BoardMean::of_parts(joined(self.upper, self.lower) * power_of_36(22 - k), 0);
+        }
+        times(self.upper, self.lower, power_of_36(33 - k))
     }
+}
+
+/// The number that two parts are, of at most 36 ^ 22.
+fn joined(upper: u128, lower: u64) -> u128
+    requires { upper * part + lower ≤ 36 ^ 22 }
+    ensures { result ≡ upper * part + lower }
+{
+    upper * u128::from(PART) + u128::from(lower)
+}
+
+/// Two parts times a number of at most 36 ^ 10, where the product is at most 36 ^ 33.
+#[tactic(auto, using(crate::proofs::TwoParts::of_parts_times))]
+fn times(upper: u128, lower: u64, factor: u128) -> BoardMean
+    requires lower { lower < part }
+    requires factor { factor ≤ 36 ^ 10 }
+    requires most { (upper * part + lower) * factor ≤ 36 ^ 33 }
+    ensures { result ≡ (upper * part + lower) * factor }
+{
+    let low = u128::from(lower) * factor;
+    let high = upper * factor + low / u128::from(PART);
+    BoardMean::of_parts(high, (low % u128::from(PART)) as u64)
 }
 
 impl Summand for LongCount {

@@ -1,8 +1,7 @@
 //! Fractions in lowest terms, by twos and threes alone.
 ghost use Rattle.std.specs.Prelude.{◌≡◌, ◌*◌, ◌^◌, ◌<◌, ◌≤◌, slice_index};
 ghost use Rattle.std.specs.Int.{IsGcd};
-ghost use Rattle.race_model.specs.LocalEquations.{whole};
-ghost use Rattle.race_model.specs.Fractions.{IsFraction, IsMean, IsEffectivePips, IsThousandths};
+ghost use Rattle.race_model.specs.Prelude.{whole, IsFraction, IsMean, IsEffectivePips, IsThousandths};
 ghost use Rattle.fixed_fraction.specs.Ratios.{Ratio, IsSmallRatio};
 
 use crate::scaled::Scaled;
@@ -83,7 +82,7 @@ const POWERS_OF_THREE: [u128; 68] = [
 ];
 
 /// A fraction in lowest terms, as replies print it: its denominator is 1
-/// to 6 * 36 ^ 22, and its value at most 180 (this project's profile).
+/// to 6 * 36 ^ 22, and its value at most 180.
 #[derive(Clone, Copy, Debug, PartialEq, Eq)]
 pub struct Fraction {
     numerator: u128,
@@ -145,8 +144,8 @@ pub fn epc(rolls: Scaled) -> Fraction
     mean_and_epc(rolls).1
 }
 
-/// The mean number of rolls as a fraction, and its effective pip count, which takes little more
-/// once there is the mean in lowest terms.
+/// The mean as a fraction, and its effective pip count. The second takes little more time once the
+/// mean is in lowest terms.
 pub fn mean_and_epc(rolls: Scaled) -> (Fraction, Fraction)
     ensures mean { IsMean rolls result.0.numerator result.0.denominator }
     ensures epc { IsEffectivePips rolls result.1.numerator result.1.denominator }
@@ -173,7 +172,7 @@ pub fn share(spread: &Spread, k: u8) -> Fraction
 }
 
 /// The fraction in thousandths, rounded to the nearest, and
-/// a half upward (this project's profile).
+/// a half upward.
 #[tactic(auto, unfolding(race_model::specs::LocalEquations::whole))]
 pub fn thousandths(fraction: &Fraction) -> u128
     ensures { IsThousandths fraction.now.numerator fraction.now.denominator result }

@@ -2,7 +2,7 @@
 ghost use Rattle.std.specs.Prelude.{◌≡◌, ◌+◌, ◌*◌, ◌^◌, ◌<◌, ◌≤◌, ◌↔◌, IsTrue};
 ghost use Rattle.fixed_fraction.specs.Board.{part};
 
-/// How many of a lower part are one of the upper part, 36 ^ 11 (this project's profile).
+/// How many lower parts make one upper part: 36 ^ 11.
 pub const PART: u64 = 131621703842267136;
 
 /// 36 to the power of 0 to 22.

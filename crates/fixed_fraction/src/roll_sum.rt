@@ -2,7 +2,7 @@
 //! 36 * 36 ^ 11 has room in 64 bits, so both parts are added up apart, with no carry.
 ghost use Rattle.std.specs.Prelude.{◌≡◌, ℕ, ◌+◌, ◌*◌, ◌/◌, ◌%◌, ◌^◌, ◌<◌, ◌≤◌, ◌↔◌, map, slice_index};
 ghost use Rattle.std.specs.Prelude.{IsTrue, IsSome, IfSome};
-ghost use Rattle.race_model.specs.Dice.{roll_index, weighted};
+ghost use Rattle.race_model.specs.Prelude.{roll_index, weighted};
 ghost use Rattle.fixed_fraction.specs.Board.{board_whole, part, WeightedSum};
 
 use crate::board_mean::BoardMean;
@@ -35,8 +35,8 @@ pub trait Summand: Copy {
         } };
 }
 
-/// The sum of what the rolls lead to, in the order of their indices, with the weights of these: 1
-/// for a double, else 2 (the rules of backgammon: 36 throws count equally).
+/// The weighted sum over the 21 rolls, given by index: 1 for a double, else 2 (the rules of
+/// backgammon: 36 throws count equally).
 #[inline(always)]
 pub fn sum_of<N: Summand>(numbers: &[N; 21]) -> N::Sum
     ensures weight { (N.total result).weight ≡ 36 }

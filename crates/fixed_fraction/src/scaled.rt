@@ -1,14 +1,14 @@
 //! A mean as a numerator over 36 ^ 22, and the mean of the means after a roll.
 ghost use Rattle.std.specs.Prelude.{◌≡◌, ℕ, ◌+◌, ◌*◌, ◌<◌, ◌≤◌, ◌↔◌, IsSome, IfSome, sum_by};
-ghost use Rattle.race_model.specs.LocalEquations.{whole};
+ghost use Rattle.race_model.specs.Prelude.{whole};
 
 use std::marker::Model;
 
 /// The denominator of every number in a database, 36 ^ 22:
-/// 36 throws, and at most 22 rolls (this project's profile).
+/// 36 throws, and at most 22 rolls.
 pub const WHOLE: u128 = 17324272922341479351919144385642496;
 
-/// The greatest numerator of a mean, 22 rolls (this project's profile).
+/// The greatest numerator of a mean, 22 rolls.
 pub const MOST: u128 = 22 * WHOLE;
 
 /// A number of rolls from 0 to 22, as a numerator over

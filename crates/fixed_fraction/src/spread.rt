@@ -2,7 +2,7 @@
 ghost use Rattle.std.specs.Prelude.{◌≡◌, ℕ, suc, ◌+◌, ◌*◌, ◌%◌, ◌<◌, ◌≤◌, ◌↔◌, List, ◌∷◌, length};
 ghost use Rattle.std.specs.Prelude.{replicate, slice_index, IsTrue, IsSome, IfSome, All, sum};
 ghost use Rattle.std.specs.Prelude.{sum_by};
-ghost use Rattle.race_model.specs.LocalEquations.{whole};
+ghost use Rattle.race_model.specs.Prelude.{whole};
 ghost use Rattle.fixed_fraction.specs.Totals.{weighted_share};
 
 use crate::scaled::WHOLE;
@@ -115,7 +115,7 @@ impl Spread {
     }
 }
 
-/// Whether no part has a share at 22 rolls, which one roll more would move past the last share.
+/// Whether no part has a share at 22 rolls. One roll more would move it past the last share.
 fn leaves_room(parts: &[(u8, Spread); 21]) -> bool
     ensures room { IsTrue result ↔ All (λ part. slice_index part.1 22 ≡ 0) parts.now }
     ensures wholes { IsTrue result →

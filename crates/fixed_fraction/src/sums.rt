@@ -2,8 +2,7 @@
 ghost use Rattle.std.specs.Prelude.{◌≡◌, ◌≢◌, ℕ, suc, ◌+◌, ◌*◌, ◌%◌, ◌^◌, ◌<◌, ◌≤◌, ◌↔◌};
 ghost use Rattle.std.specs.Prelude.{List, [], length, map, slice_index, slice_index_or, sum};
 ghost use Rattle.std.specs.Prelude.{IsTrue, IsSome, IfSome, All};
-ghost use Rattle.race_model.specs.Dice.{roll_index, weighted};
-ghost use Rattle.race_model.specs.LocalEquations.{whole};
+ghost use Rattle.race_model.specs.Prelude.{roll_index, weighted, whole};
 ghost use Rattle.fixed_fraction.specs.Totals.{weighted_at, sum_at};
 
 use crate::scaled::{MOST, Scaled, WHOLE};
@@ -65,10 +64,9 @@ impl<'a> Distribution for &'a Spread {
     }
 }
 
-/// The means and the shares of what the 21 rolls lead to, added up with the weights of these
-/// rolls: 1 for a double, else 2 (the rules of backgammon: 36 throws count equally). The weights
-/// add up to 36, so that the record of a position is one roll and a 36th of these sums, its shares
-/// moved on by one roll.
+/// The weighted sums of the means and shares after the 21 rolls: 1 for a double, else 2 (the rules
+/// of backgammon: 36 throws count equally). The weights add up to 36, so that the record of a
+/// position is one roll and a 36th of these sums, its shares moved on by one roll.
 #[derive(Drop)]
 pub struct Sums {
     mean: u128,
@@ -91,40 +89,50 @@ impl Model for Sums {
 }
 
 impl Sums {
-    /// The sums of the means and of the shares that the rolls lead to, in the order of their
-    /// indices. None of them has a share of fewer than `first` rolls, or of so many as `rolls` or
+    /// The sums where each roll ends the game.
+    #[tactic(auto, unfolding(race_model::specs::LocalEquations::whole))]
+    pub fn finished() -> Self {
+        let mut shares = [0; 23];
+        shares[0] = 36 * WHOLE;
+        Sums {
+            mean: 0,
+            shares,
+            rolls: 1,
+        }
+    }
+
+    /// Adds up the means and shares after the 21 rolls, given by index, and forgets what was added
+    /// up before. None of them has a share of fewer than `first` rolls, or of so many as `rolls` or
     /// more.
     #[inline(always)]
-    pub fn of<S: Distribution>(
+    pub fn add_up<S: Distribution>(
+        &mut self,
         means: &[Scaled; 21],
         spreads: &[S; 21],
         first: u8,
         rolls: u8,
-    ) -> Self
+    )
         requires order { first ≤ rolls }
         requires few { rolls ≤ 23 }
         requires before { (i k : ℕ) → i < 21 → k < first →
             slice_index (slice_index_or (map S.shares spreads.now) i []) k ≡ 0 }
         requires beyond { (i k : ℕ) → i < 21 → rolls ≤ k →
             slice_index (slice_index_or (map S.shares spreads.now) i []) k ≡ 0 }
-        ensures mean { result.mean ≡ weighted (λ v. slice_index means.now (roll_index v)) }
-        ensures shares { (k : ℕ) → k < 23 → slice_index result.shares k
+        ensures mean { self.new.mean ≡ weighted (λ v. slice_index means.now (roll_index v)) }
+        ensures shares { (k : ℕ) → k < 23 → slice_index self.new.shares k
             ≡ weighted_at (map S.shares spreads.now) k }
     {
         law_spreads(spreads);
-        let mut shares = [0; 23];
-        add_plays(&mut shares, spreads, &OTHERS, first, rolls);
-        double(&mut shares);
-        add_plays(&mut shares, spreads, &DOUBLES, first, rolls);
-        Sums {
-            mean: sum_of_means(means),
-            shares,
-            rolls,
-        }
+        self.mean = sum_of_means(means);
+        self.rolls = rolls;
+        self.shares = [0; 23];
+        add_plays(&mut self.shares, spreads, &OTHERS, first, rolls);
+        double(&mut self.shares);
+        add_plays(&mut self.shares, spreads, &DOUBLES, first, rolls);
     }
 
-    /// Whether a number is one roll and a 36th of the means, and no more than 22 rolls. It is
-    /// compared without a division.
+    /// Whether a number is one roll plus 1/36 of the means, at most 22 rolls. It is compared
+    /// without a division.
     #[inline(always)]
     #[tactic(auto, unfolding(race_model::specs::LocalEquations::whole))]
     pub fn is_mean(&self, number: u128) -> bool
@@ -134,7 +142,7 @@ impl Sums {
         number <= MOST && number >= WHOLE && 36 * (number - WHOLE) == self.mean
     }
 
-    /// Whether a number is a 36th of the shares of exactly `k` rolls, and so the share of one roll
+    /// Whether a number is 1/36 of the shares of exactly `k` rolls. That is the share of one roll
     /// more; none is from 23 rolls on. It is compared without a division.
     #[inline(always)]
     pub fn is_later_share(&self, k: u8, number: u128) -> bool
@@ -157,27 +165,32 @@ impl Sums {
         Scaled::new(part_of_36(total)?)
     }
 
-    /// A 36th of the shares, each moved on by one roll. None exactly where one is no whole
-    /// numerator, or there is a share at 22 rolls, which one roll more would move past the last
-    /// share.
+    /// Puts a 36th of the shares there, each moved on by one roll. False exactly where one is no
+    /// whole numerator, or there is a share at 22 rolls, which one roll more would move past the
+    /// last share; then nothing is put.
     #[tactic(auto, unfolding(race_model::specs::LocalEquations::whole))]
-    pub fn spread(&self) -> Option<Spread>
-        ensures start { IfSome result (λ spread. slice_index spread 0 ≡ 0) }
-        ensures moved { IfSome result (λ spread. (k : ℕ) → k < 22 →
-            36 * slice_index spread (suc k) ≡ slice_index self.now.shares k) }
-        ensures some { IsSome result ↔
+    pub fn put_spread(&self, spread: &mut Spread) -> bool
+        ensures start { IsTrue result → slice_index spread.new 0 ≡ 0 }
+        ensures moved { IsTrue result → (k : ℕ) → k < 22 →
+            36 * slice_index spread.new (suc k) ≡ slice_index self.now.shares k }
+        ensures all { IsTrue result ↔
             ((slice_index self.now.shares 22 ≡ 0)
             × ((k : ℕ) → k < 22 → slice_index self.now.shares k % 36 ≡ 0)) }
+        ensures kept { ¬ IsTrue result → spread.new ≡ spread.old }
     {
         if self.shares[22] != 0 {
-            return None;
+            return false;
         }
         let mut shares = [0; 23];
         for k in 0..self.rolls.min(22) {
             let place = usize::from(k);
-            shares[place + 1] = part_of_36(self.shares[place])?;
+            let Some(part) = part_of_36(self.shares[place]) else {
+                return false;
+            };
+            shares[place + 1] = part;
         }
-        Some(Spread::of_whole(shares))
+        *spread = Spread::of_whole(shares);
+        true
     }
 }
 
@@ -209,7 +222,7 @@ fn law_spreads<S: Distribution>(spreads: &[S; 21])
     }
 }
 
-/// The sum of what the rolls lead to, in the order of their indices, with the weights of these.
+/// The weighted sum of the means after the 21 rolls, given by index.
 #[inline(always)]
 #[tactic(auto, unfolding(race_model::specs::LocalEquations::whole))]
 fn sum_of_means(means: &[Scaled; 21]) -> u128
@@ -223,9 +236,9 @@ fn sum_of_means(means: &[Scaled; 21]) -> u128
     total
 }
 
-/// Adds the shares of the plays of these rolls, by their indices, none of which has one of fewer
-/// than `first` rolls, or of so many as `rolls` or more. As long as all of them may have one, those
-/// of one number of rolls are added up after the other, so that each sum is read and written once.
+/// Adds the shares after the plays of these rolls, given by index. All shares are of `first` to
+/// `rolls` - 1 rolls. As long as all of them may have one, those of one number of rolls are added
+/// up after the other, so that each sum is read and written once.
 #[inline(always)]
 fn add_plays<S: Distribution>(
     shares: &mut [u128; 23],
@@ -256,7 +269,7 @@ fn add_plays<S: Distribution>(
     add_each(shares, spreads, indices, end, rolls);
 }
 
-/// Adds the shares of these plays of `from` to one before `end` rolls, which all of them may have.
+/// Adds the shares of `from` to `end` - 1 rolls, which all these plays may have.
 // the loop begins at 0, since the compiler moves a pointer for each play where it may begin later,
 // and a share of one roll or more may be read with no test for that of none
 #[inline(always)]
@@ -289,7 +302,7 @@ fn add_common<S: Distribution>(
     }
 }
 
-/// Adds the shares of these plays of `from` to one before `to` rolls, one play after the other.
+/// Adds the shares of `from` to `to` - 1 rolls, one play after another.
 #[inline(always)]
 fn add_each<S: Distribution>(
     shares: &mut [u128; 23],
@@ -319,7 +332,7 @@ fn add_each<S: Distribution>(
     }
 }
 
-/// A number of rolls, at most so many, up to which each of these plays may have a share.
+/// A number of rolls up to which each of these plays may have shares.
 #[inline(always)]
 fn least_end<S: Distribution>(spreads: &[S; 21], indices: &[u8], rolls: u8) -> u8
     requires indices { All (λ i. i < 21) indices.now }

@@ -2,7 +2,7 @@
 ghost use Prim.Native.Nat.{◌∣◌};
 ghost use Rattle.std.specs.Prelude.{◌≡◌, ◌+◌, ◌*◌, ◌%◌, ◌^◌, ◌<◌, ◌≤◌, IfSome, IsNone};
 ghost use Rattle.std.specs.Int.{IsGcd};
-ghost use Rattle.race_model.specs.LocalEquations.{whole};
+ghost use Rattle.race_model.specs.Prelude.{whole};
 ghost use Rattle.fixed_fraction.specs.Ratios.{IsDivided, AreApart};
 
 /// A numerator over a product of so many threes and so many twos.
@@ -77,8 +77,8 @@ fn without_threes(terms: Terms) -> Terms
     less
 }
 
-/// The terms without powers of three that both have, each taken out once, so that of up to 46
-/// threes few are left.
+/// Divides both terms by powers of three that they share. Each power is taken out once, so of up
+/// to 46 threes few are left.
 fn without_powers(terms: Terms) -> Terms
     ensures twos { result.twos ≡ terms.twos }
     ensures threes { result.threes ≤ terms.threes }
@@ -92,7 +92,7 @@ fn without_powers(terms: Terms) -> Terms
     without(less, 2, 9, 75618303760208547436305468318170713657)
 }
 
-/// The terms divided by a power of three, if both are multiples of it, and else the terms.
+/// The terms divided by a power of three if it divides both, or else unchanged.
 fn without(terms: Terms, count: u32, power: u128, inverse: u128) -> Terms
     requires power { power ≡ 3 ^ count }
     requires inverse { power * inverse % 2 ^ 128 ≡ 1 }

@@ -77,12 +77,17 @@ impl Wide {
 
     /// The number in three parts for its digits: so many times 10 ^ 36 and 10 ^ 18, and the rest.
     /// It has at most 58 digits.
+    #[inline(always)]
     pub fn digits(self) -> (u128, u64, u64)
         ensures value { result.0 * 10 ^ 36 + result.1 * 10 ^ 18 + result.2 ≡ self }
+        ensures first { result.0 < 10 ^ 22 }
         ensures second { result.1 < 10 ^ 18 }
         ensures third { result.2 < 10 ^ 18 }
         ensures short { self < 10 ^ 58 }
     {
+        if self.high == 0 {
+            return short_digits(self.low);
+        }
         let (front, third) = self.divided(DIGITS);
         let (first, second) = front.divided(DIGITS);
         (first.low, second, third)
@@ -129,23 +134,9 @@ impl Wide {
         }
     }
 
-    /// The number times a power, where the product has room.
-    #[tactic(auto, using(crate::proofs::WideNumbers::of_power))]
-    pub(crate) fn times_power(self, factor: u32, exponent: u32) -> Wide
-        requires positive { 0 < factor }
-        requires room { self * factor ^ exponent < 2 ^ 192 }
-        ensures { result ≡ self * factor ^ exponent }
-    {
-        let mut product = self;
-        for times in 0..exponent {
-            product = product.times(factor);
-        }
-        product
-    }
-
     /// The quotient by a number of up to 64 bits, and the rest.
     #[tactic(auto, using(crate::proofs::WideNumbers::of_divided))]
-    pub(crate) fn divided(self, by: u64) -> (Wide, u64)
+    pub fn divided(self, by: u64) -> (Wide, u64)
         requires { 0 < by }
         ensures quotient { result.0 ≡ self / by }
         ensures rest { result.1 ≡ self % by }
@@ -166,4 +157,25 @@ impl Wide {
             (last % by) as u64,
         )
     }
+}
+
+/// The three parts of a number of 128 bits, whose first is at most 340.
+#[inline(always)]
+fn short_digits(number: u128) -> (u128, u64, u64)
+    ensures value { result.0 * 10 ^ 36 + result.1 * 10 ^ 18 + result.2 ≡ number }
+    ensures first { result.0 < 10 ^ 22 }
+    ensures second { result.1 < 10 ^ 18 }
+    ensures third { result.2 < 10 ^ 18 }
+{
+    let digits = u128::from(DIGITS);
+    if number < digits {
+        return (0, 0, number as u64);
+    }
+    let front = number / digits;
+    let third = (number - front * digits) as u64;
+    if front < digits {
+        return (0, front as u64, third);
+    }
+    let first = front / digits;
+    (first, (front - first * digits) as u64, third)
 }

@@ -3,7 +3,7 @@ ghost use Prim.Native.Nat.{◌∣◌};
 ghost use Rattle.std.specs.Prelude.{◌≡◌, ℕ, ◌+◌, ◌-◌, ◌*◌, ◌%◌, ◌^◌, ◌<◌, ◌≤◌, ◌↔◌};
 ghost use Rattle.std.specs.Prelude.{IsSome, IfSome};
 ghost use Rattle.std.specs.Int.{IsGcd};
-ghost use Rattle.race_model.specs.Fractions.{IsFraction, IsThousandths};
+ghost use Rattle.race_model.specs.Prelude.{IsFraction, IsThousandths};
 ghost use Rattle.fixed_fraction.specs.Board.{board_whole};
 ghost use Rattle.fixed_fraction.specs.Ratios.{Ratio, IsDivided, AreApart};
 
@@ -56,6 +56,17 @@ impl WideFraction {
     {
         self.denominator
     }
+
+    /// A fraction of 128 bits.
+    pub fn of(fraction: Fraction) -> WideFraction
+        ensures numerator { result.numerator ≡ fraction.numerator }
+        ensures denominator { result.denominator ≡ fraction.denominator }
+    {
+        WideFraction {
+            numerator: Wide::of(fraction.numerator()),
+            denominator: Wide::of(fraction.denominator()),
+        }
+    }
 }
 
 /// A numerator over a product of so many threes and so many twos.
@@ -75,7 +86,7 @@ pub fn board_mean_and_epc(mean: BoardMean) -> (WideFraction, WideFraction)
 {
     if let Some(rolls) = mean.scaled() {
         let (mean, epc) = mean_and_epc(rolls);
-        return (wide(mean), wide(epc));
+        return (WideFraction::of(mean), WideFraction::of(epc));
     }
     let lowest_mean = lowest_mean(mean);
     let lowest_epc = lowest(WideTerms {
@@ -91,27 +102,15 @@ pub fn board_mean_fraction(rolls: BoardMean) -> WideFraction
     ensures { IsFraction rolls board_whole result.numerator result.denominator }
 {
     match rolls.scaled() {
-        Some(rolls) => wide(mean(rolls)),
+        Some(rolls) => WideFraction::of(mean(rolls)),
         None => fraction_of(lowest_mean(rolls)),
     }
 }
 
-/// A fraction of 128 bits.
-fn wide(fraction: Fraction) -> WideFraction
-    ensures numerator { result.numerator ≡ fraction.numerator }
-    ensures denominator { result.denominator ≡ fraction.denominator }
-{
-    WideFraction {
-        numerator: Wide::of(fraction.numerator()),
-        denominator: Wide::of(fraction.denominator()),
-    }
-}
-
-/// The share of exactly `k` rolls as a fraction, from the count of sequences of so many throws
-/// that end the game with the last one.
+/// The share of exactly `k` rolls as a fraction, by its count: so many of all sequences of `k`
+/// throws.
 pub fn board_share(count: LongCount, k: u8) -> WideFraction
-    requires few { k ≤ 33 }
-    requires within { count ≤ 36 ^ k }
+    requires { k ≤ 33 }
     ensures { IsFraction (count * 36 ^ (33 - k)) board_whole
         result.numerator result.denominator }
 {
@@ -123,9 +122,8 @@ pub fn board_share(count: LongCount, k: u8) -> WideFraction
     }))
 }
 
-/// A numerator over a denominator in thousandths, rounded to the nearest, and a half upward (this
-/// project's profile); none exactly where the denominator is 0 or over 6 * 36 ^ 33, or the fraction
-/// is over 180. They need not be in lowest terms.
+/// A fraction in thousandths, rounded half up; none exactly where the denominator is 0 or over 6 *
+/// 36 ^ 33, or the fraction is over 180. They need not be in lowest terms.
 pub fn wide_thousandths(numerator: Wide, denominator: Wide) -> Option<u64>
     ensures some { IsSome result ↔ ((0 < denominator) × (denominator ≤ 6 * board_whole)
         × (numerator ≤ 180 * denominator)) }

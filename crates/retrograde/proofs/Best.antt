@@ -1,15 +1,10 @@
 -- The best play among the results of a throw, of which there is one.
-use Rattle.std.proofs.Common.{◌≡◌, ℕ, suc, ◌<◌, ◌≤◌, ◌↔◌, List, All, Any, Contains, ap, ◌∙◌, arith}
-use Rattle.std.specs.Prelude.{slice_index}
-use Rattle.race_model.specs.Positions.{Board, IsPosition, IsFinished, pips}
-use Rattle.race_model.specs.Dice.{Throw}
-use Rattle.race_model.specs.Plays.{Legal}
-use Rattle.race_model.specs.Ranks.{rank, first_of}
+use Rattle.std.proofs.Common.{◌≡◌, ℕ, suc, ◌<◌, ◌≤◌, ◌↔◌, List, All, Any, Contains, ap, ◌∙◌, arith, slice_index}
+use Rattle.race_model.specs.Prelude.{Board, IsPosition, IsFinished, pips, Throw, Legal, rank, first_of, IsBestPlay}
 use Rattle.race_model.proofs.Numbers.Members.{member_of_all, some_member}
 use Rattle.race_model.proofs.Plays.Results.{legal_position, legal_fewer_pips, legal_finished}
 use Rattle.race_model.proofs.Ranks.RankOrder.{rank_within, first_of-rises, first_of-suc}
 use Rattle.race_model.proofs.Ranks.BestPlays.{rank-finished_position}
-use Rattle.race_model.specs.BestPlays.{IsBestPlay}
 
 -- the best of the results is the best play
 pub best-of_results : (means : List ℕ) (x : Board) (v : Throw) (r : ℕ) (found : List Board) →

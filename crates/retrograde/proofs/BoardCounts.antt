@@ -2,7 +2,7 @@
 use Rattle.std.proofs.Common.{◌≡◌, ⊎_elim, ℕ, suc, ◌+◌, ◌*◌, ◌^◌, ◌<◌, ◌≤◌, List, ap}
 use Rattle.std.proofs.Common.{sym, subst, ◌∙◌, arith}
 use Rattle.std.proofs.lemmas.Bool.{cases_lt}
-use Rattle.race_model.specs.BoardFiles.{Parts, value_of_parts, count_place, count_parts}
+use Rattle.race_model.specs.Prelude.{Parts, value_of_parts, count_place, count_parts}
 use Rattle.race_model.proofs.RightFiles.CountParts.{parts_of}
 use Rattle.db_layout.specs.BoardRecords.{KeepsBefore}
 use Rattle.db_layout.proofs.SameFronts.{count-agree}
@@ -32,7 +32,7 @@ module _ (old new : List ℕ) (k upper lower : ℕ) (kept : KeepsBefore (count_p
       (subst (λ (parts : Parts). parts.lower < 36 ^ 11) (sym is) (here (omega arith))))
       (cases_lt j (k + 1))
 
-  -- .. and have their values
+  -- all that are written have their values
   pub value-next : (value : ℕ → ℕ) →
       ((j : ℕ) → j < k → value_of_parts (count_parts old (suc j)) ≡ value j) →
       upper * 36 ^ 11 + lower ≡ value k → (j : ℕ) → j < k + 1 →

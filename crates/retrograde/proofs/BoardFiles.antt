@@ -4,10 +4,8 @@ use Rattle.std.proofs.Common.{ap, sym, subst, ◌∙◌, arith}
 use Rattle.std.proofs.lemmas.List.{length-take-le, take-take}
 use Rattle.std.specs.Int.{w16, from_be_bytes}
 use Rattle.std.proofs.lemmas.Nat.{from_be_bytes-to_be_bytes_2}
-use Rattle.race_model.specs.Positions.{Board, IsPosition, pips}
-use Rattle.race_model.specs.Ranks.{rank, count_to}
-use Rattle.race_model.specs.Files.{IsBytes, bytes_at, bound_of}
-use Rattle.race_model.specs.BoardFiles.{board_header, board_place, IsBoardFile}
+use Rattle.race_model.specs.Prelude.{Board, IsPosition, pips, rank, count_to, IsBytes, bytes_at, bound_of, board_header}
+use Rattle.race_model.specs.Prelude.{board_place, IsBoardFile}
 use Rattle.race_model.proofs.Ranks.RankOrder.{rank_bound}
 use Rattle.race_model.proofs.FirstFaults.HeaderFacts.{small_bytes}
 use Rattle.race_model.proofs.Books.Boards.{right_board}

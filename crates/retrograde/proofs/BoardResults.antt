@@ -1,9 +1,6 @@
 -- What the best plays of the position of a rank lead to: ranks below it, of results of the rolls.
-use Rattle.std.proofs.Common.{◌≡◌, ℕ, List, arith}
-use Rattle.std.specs.Prelude.{slice_index}
-use Rattle.race_model.specs.Positions.{Board, IsPosition, IsFinished}
-use Rattle.race_model.specs.Dice.{roll_at}
-use Rattle.race_model.specs.Ranks.{rank}
+use Rattle.std.proofs.Common.{◌≡◌, ℕ, List, arith, slice_index}
+use Rattle.race_model.specs.Prelude.{Board, IsPosition, IsFinished, roll_at, rank}
 use Rattle.race_model.proofs.Ranks.BestPlays.{legal_lower}
 use Rattle.db_layout.specs.LowerRecords.{AreBelow, AreResults}
 use Rattle.retrograde.specs.NextBoardRecord.{AreBestPlays}
@@ -14,7 +11,7 @@ module _ (mean : ℕ → ℕ) (x : Board) (plays : List ℕ) (best : AreBestPlay
   pub are-results : AreResults x (slice_index plays)
   are-results i inside = (best i inside).reached
 
-  -- .. whose rank is lower, if the position isn't finished
+  -- the rank of each result is lower, if the position isn't finished
   pub are-below : (n : ℕ) → IsPosition x → ¬ IsFinished x → rank x ≡ n →
       AreBelow (slice_index plays) n
   are-below n at unfinished is i inside =

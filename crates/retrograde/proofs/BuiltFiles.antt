@@ -1,22 +1,16 @@
 -- The file of the records that were made is the built file.
-use Rattle.std.proofs.Common.{◌≡◌, ℕ, zero, suc, ◌<◌, ◌≤◌, List, [], refl, sym, subst, arith, le_trans}
-use Rattle.std.specs.Prelude.{slice_index, slice_index_or}
-use Rattle.race_model.specs.Positions.{Board, IsPosition, pips}
-use Rattle.race_model.specs.Dice.{Throw, IsRoll, roll_index}
-use Rattle.race_model.specs.Plays.{Legal}
-use Rattle.race_model.specs.Ranks.{rank, at_rank, count_to}
-use Rattle.race_model.specs.Versions.{Version, greatest_bound}
-use Rattle.race_model.specs.Books.{Book, play_in}
-use Rattle.race_model.specs.Files.{IsBytes, version_of, bound_of, mean_at, play_at, spread_at, book_of}
-use Rattle.race_model.specs.LocalEquations.{whole, HasShareOver, IsLocalOver, IsLocalAt}
-use Rattle.race_model.specs.BuiltFile.{IsLowest, IsBuilt}
+use Rattle.std.proofs.Common.{◌≡◌, ℕ, zero, suc, ◌<◌, ◌≤◌, List, [], refl, sym, subst, arith, le_trans, slice_index}
+use Rattle.std.proofs.Common.{slice_index_or}
+use Rattle.race_model.specs.Prelude.{Board, IsPosition, pips, Throw, IsRoll, roll_index, Legal, rank, at_rank, count_to}
+use Rattle.race_model.specs.Prelude.{Version, greatest_bound, Book, play_in, IsBytes, version_of, bound_of, mean_at}
+use Rattle.race_model.specs.Prelude.{play_at, spread_at, book_of, whole, HasShareOver, IsLocalOver, IsLocalAt, IsLowest}
+use Rattle.race_model.specs.Prelude.{IsBuilt, IsBestPlay}
 use Rattle.race_model.proofs.Plays.Results.{legal_position, legal_pips}
 use Rattle.race_model.proofs.Ranks.RankOrder.{rank_bound, at_rank-rank, count_to-rises}
 use Rattle.race_model.proofs.Books.SameRanks.{local-same}
 use Rattle.race_model.proofs.RightFiles.Right.{greatest_bound-most}
 use Rattle.race_model.proofs.Dice.Throws.{index_of_roll}
 use Rattle.race_model.proofs.Dice.RollSums.{roll_index-range}
-use Rattle.race_model.specs.BestPlays.{IsBestPlay}
 use Rattle.race_model.proofs.Ranks.BestPlays.{best-agree}
 use Rattle.retrograde.specs.BuiltRecords.{shares_of, IsMade}
 use Rattle.retrograde.specs.AllRecords.{AllRecords, mean_of_rank, plays_of_rank, shares_of_rank, bytes_of_rank}

@@ -1,21 +1,16 @@
 -- The records of the positions to 58 pips exist, whether or not anybody has made them: for each
 -- roll one of the results is the best, and what is pulled from the records of lower rank is exact.
-use Rattle.std.proofs.Common.{◌≡◌, ◌⊎◌, inl, inr, ⊎_elim, ℕ, zero, suc, ◌+◌, ◌*◌, ◌/◌, ◌%◌, ◌^◌}
-use Rattle.std.proofs.Common.{◌<◌, ◌≤◌, List, [], ◌∷◌, ◌++◌, length, get_or, map, replicate, refl}
-use Rattle.std.proofs.Common.{sym, ap, subst, ◌∙◌, arith}
-use Rattle.std.specs.Prelude.{slice_index, slice_index_or}
+use Rattle.std.proofs.Common.{◌≡◌, ◌⊎◌, inl, inr, ⊎_elim, ℕ, zero, suc, ◌+◌, ◌*◌, ◌/◌, ◌%◌, ◌^◌, ◌<◌, ◌≤◌, List, []}
+use Rattle.std.proofs.Common.{◌∷◌, ◌++◌, length, get_or, map, replicate, refl, sym, ap, subst, ◌∙◌, arith, slice_index}
+use Rattle.std.proofs.Common.{slice_index_or}
 use Rattle.std.specs.List.{range_with_len}
 use Rattle.std.proofs.Math.ListN.{get_or-append}
 use Rattle.std.proofs.Math.Seq.{get_or-append_seam}
 use Rattle.std.proofs.lemmas.List.{get_or_past}
 use Rattle.std.proofs.lemmas.List.FromFn.{get_or-map-range_with_len, length-map-range_with_len, get_or-range_with_len}
 use Rattle.std.proofs.lemmas.List.Sums.{get_or-le-sum_by}
-use Rattle.race_model.specs.Positions.{Board, IsPosition, IsFinished, pips}
-use Rattle.race_model.specs.Dice.{Throw, roll_at}
-use Rattle.race_model.specs.Ranks.{rank, at_rank, count_to}
-use Rattle.race_model.specs.Enumerations.{all_results}
-use Rattle.race_model.specs.LocalEquations.{whole}
-use Rattle.race_model.specs.Strategies.{count_of}
+use Rattle.race_model.specs.Prelude.{Board, IsPosition, IsFinished, pips, Throw, roll_at, rank, at_rank, count_to}
+use Rattle.race_model.specs.Prelude.{all_results, whole, count_of, IsBestPlay}
 use Rattle.race_model.proofs.Plays.Enumerated.{IsIn, results_listed, listed_results}
 use Rattle.race_model.proofs.Plays.Results.{finished_or_not, legal_somewhere, legal_position}
 use Rattle.race_model.proofs.Ranks.RankOrder.{at_rank_position}
@@ -23,7 +18,6 @@ use Rattle.race_model.proofs.Ranks.PositionTotals.{rank-range, at_rank_under, co
 use Rattle.race_model.proofs.Strategies.Horizons.{within_22, most_rolls-most}
 use Rattle.race_model.proofs.Strategies.Spreads.{counts_add_up}
 use Rattle.db_layout.proofs.Bytes.{record_reads, mean_fits}
-use Rattle.race_model.specs.BestPlays.{IsBestPlay}
 use Rattle.retrograde.specs.BuiltRecords.{sum_of_means, sum_of_shares, IsMade, IsReached}
 use Rattle.retrograde.specs.BuiltRecords.{IsReadBack, AreMade, HasRecords}
 use Rattle.retrograde.specs.AllRecords.{AllRecords}
@@ -62,7 +56,7 @@ no-worse_trans m r n q o p first second = ⊎_elim
     (λ again. inr (same.0 ∙ again.0, omega (arith, same.1, again.1))) second)
     first
 
--- .. of positions, by their means and ranks
+-- one of two positions is no worse than the other, by their means and ranks
 abbrev IsNoWorse : List ℕ → Board → Board → Type 0
 IsNoWorse means a b =
     NoWorse (slice_index means (rank a)) (rank a) (slice_index means (rank b)) (rank b)
@@ -108,7 +102,7 @@ best_in means x (y ∷ ys) = choose (best_in means y ys)
         (no-worse_or (slice_index means (rank x)) (rank x) (slice_index means (rank rest.best))
         (rank rest.best))
 
--- .. where it has a member
+-- of a list that has a member, one is no worse than any
 best_of_some : (means : List ℕ) (xs : List Board) (y : Board) → IsIn y xs → IsBestIn means xs
 best_of_some means [] y h = absurd h
 best_of_some means (x ∷ xs) y h = best_in means x xs
@@ -168,7 +162,7 @@ shares-whole x mean shares at low len reached k = ⊎_elim
     zero-add : (n : ℕ) → 0 + n ≡ n
     zero-add n = omega arith
 
--- .. nor over 128 bits
+-- no share of a strategy is over 128 bits
 share-fits : (share : ℕ) → share ≤ whole → share < 2 ^ 128
 unfolding whole
 share-fits share le = omega arith
@@ -238,7 +232,7 @@ next-at_end n means spreads low none =
     (zeros 21) refl (zeros 22))
     (stop-reached (at_rank n) 0 (whole ∷ replicate 22 0) none refl refl (zeros 22))
 
--- .. and that of any other
+-- the record of a position that isn't finished
 module _ (n : ℕ) (means : List ℕ) (spreads : List (List ℕ)) (low : pips (at_rank n) ≤ 58)
     (unfinished : ¬ IsFinished (at_rank n))
     (reached : ReachedBelow (rank (at_rank n)) means spreads) where
@@ -368,6 +362,6 @@ records-to zero le = record {
 }
 records-to (suc n) le = records-more n le (records-to n (omega arith))
 
--- .. and those of all positions of at most 58 pips
+-- the records of all positions of at most 58 pips
 pub all-records : AllRecords
 all-records = records-to (count_to 58) (omega arith)

@@ -1,13 +1,8 @@
 -- No share of a record is lost in a file of either version: those that a compact record leaves out
 -- are known, since the record is that of a strategy.
-use Rattle.std.proofs.Common.{◌≡◌, ⊎_elim, ℕ, zero, suc, ◌≤◌, Bool, true, false, cond, leb, List}
-use Rattle.std.proofs.Common.{refl, ap, sym, ◌∙◌, eq-eqb, ne_eqb, leb-false}
-use Rattle.std.specs.Prelude.{slice_index}
-use Rattle.race_model.specs.Positions.{Board, IsPosition, pips}
-use Rattle.race_model.specs.Versions.{Version, full, compact}
-use Rattle.race_model.specs.Horizon.{most_rolls}
-use Rattle.race_model.specs.LocalEquations.{whole}
-use Rattle.race_model.specs.ToldShares.{told_share}
+use Rattle.std.proofs.Common.{◌≡◌, ⊎_elim, ℕ, zero, suc, ◌≤◌, Bool, true, false, cond, leb, List, refl, ap, sym, ◌∙◌}
+use Rattle.std.proofs.Common.{eq-eqb, ne_eqb, leb-false, slice_index}
+use Rattle.race_model.specs.Prelude.{Board, IsPosition, pips, Version, full, compact, most_rolls, whole, told_share}
 use Rattle.race_model.proofs.Plays.Results.{finished_or_not}
 use Rattle.race_model.proofs.RightFiles.ToldShares.{some_pips}
 use Rattle.race_model.proofs.Positions.Points.{no_pips}

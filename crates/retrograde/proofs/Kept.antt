@@ -1,14 +1,11 @@
 -- What is kept of the records, when there is more room for it, and how much room the next pip count
 -- needs.
-use Rattle.std.proofs.Common.{◌≡◌, ⊎_elim, ℕ, suc, ◌+◌, ◌-◌, ◌*◌, ◌<◌, ◌≤◌, List, ◌++◌, length, take, drop}
-use Rattle.std.proofs.Common.{ap, sym, ◌∙◌, arith}
+use Rattle.std.proofs.Common.{◌≡◌, ⊎_elim, ℕ, suc, ◌+◌, ◌-◌, ◌*◌, ◌<◌, ◌≤◌, List, ◌++◌, length, take, drop, ap, sym}
+use Rattle.std.proofs.Common.{◌∙◌, arith, slice_index}
 use Rattle.std.proofs.lemmas.List.{take_at}
-use Rattle.std.specs.Prelude.{slice_index}
 use Rattle.std.proofs.Math.Nat.{mul-le-mul_left}
 use Rattle.std.proofs.lemmas.Bool.{cases_lt}
-use Rattle.race_model.specs.Ranks.{first_of, count_to}
-use Rattle.race_model.specs.Versions.{Version, record_length}
-use Rattle.race_model.specs.Files.{record_place}
+use Rattle.race_model.specs.Prelude.{first_of, count_to, Version, record_length, record_place}
 use Rattle.race_model.proofs.RightFiles.Places.{record_place-by, record_place-rises}
 use Rattle.db_layout.proofs.RecordPlaces.{first_of-next, place_beyond}
 use Rattle.retrograde.specs.KeptRecords.{AreKept, level_shares}

@@ -1,15 +1,12 @@
 -- The shares that stand in a room are those of the records.
-use Rattle.std.proofs.Common.{◌≡◌, ⊎_elim, ℕ, ◌+◌, ◌-◌, ◌*◌, ◌<◌, ◌≤◌, List, length, take}
-use Rattle.std.proofs.Common.{sym, ap, ap₂, ◌∙◌, arith, ext_get_or}
-use Rattle.std.specs.Prelude.{slice_index}
+use Rattle.std.proofs.Common.{◌≡◌, ⊎_elim, ℕ, ◌+◌, ◌-◌, ◌*◌, ◌<◌, ◌≤◌, List, length, take, sym, ap, ap₂, ◌∙◌, arith}
+use Rattle.std.proofs.Common.{ext_get_or, slice_index}
 use Rattle.std.specs.Int.{w128, from_le_bytes}
 use Rattle.std.proofs.Math.ListN.{drop_of_length-le}
 use Rattle.std.proofs.lemmas.Bool.{cases_lt}
 use Rattle.std.proofs.lemmas.List.{get_or_past}
 use Rattle.std.proofs.lemmas.List.FromFn.{get_or-map-range_with_len, length-map-range_with_len}
-use Rattle.race_model.specs.Versions.{Version, full, compact, record_length}
-use Rattle.race_model.specs.Files.{bytes_at}
-use Rattle.race_model.specs.Horizon.{most_rolls}
+use Rattle.race_model.specs.Prelude.{Version, full, compact, record_length, bytes_at, most_rolls}
 use Rattle.race_model.proofs.RightFiles.Places.{length-bytes_at}
 use Rattle.race_model.proofs.Strategies.Horizons.{most_rolls-most}
 use Rattle.db_layout.proofs.ByteParts.{bytes_at-inner, bytes_at-agree}

@@ -1,7 +1,6 @@
 -- The ranks of the positions of one pip count.
 use Rattle.std.proofs.Common.{◌≡◌, ℕ, suc, ◌+◌, ◌-◌, ◌<◌, ◌≤◌, arith}
-use Rattle.race_model.specs.Positions.{pips}
-use Rattle.race_model.specs.Ranks.{at_rank, first_of, count_to}
+use Rattle.race_model.specs.Prelude.{pips, at_rank, first_of, count_to}
 use Rattle.race_model.proofs.Ranks.RankOrder.{first_of-rises, first_of-suc}
 use Rattle.db_layout.proofs.RecordPlaces.{first_of-next, pips_between}
 
@@ -13,6 +12,6 @@ pips-at_rank p r from under = pips_between p r from (omega (arith, under, first_
 pub level-end : (p : ℕ) → first_of p ≤ count_to p
 level-end p = omega (arith, first_of-suc p, first_of-rises p (suc p))
 
--- .. which is so many ranks later
+-- the next level begins so many ranks later
 pub level-all : (p : ℕ) → first_of p + (count_to p - first_of p) ≡ count_to p
 level-all p = omega (arith, level-end p)

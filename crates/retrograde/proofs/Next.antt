@@ -1,17 +1,11 @@
 -- The record of an unfinished position, from the records of lower rank.
-use Rattle.std.proofs.Common.{◌≡◌, ℕ, suc, ◌+◌, ◌*◌, ◌%◌, ◌<◌, ◌≤◌, List, sym, ap, subst, ◌∙◌, arith}
-use Rattle.std.specs.Prelude.{slice_index}
-use Rattle.race_model.specs.Positions.{Board, IsPosition, IsFinished, pips}
-use Rattle.race_model.specs.Dice.{Throw, roll_at, roll_index}
-use Rattle.race_model.specs.Plays.{Legal}
-use Rattle.race_model.specs.Ranks.{rank, at_rank}
-use Rattle.race_model.specs.Horizon.{most_rolls}
-use Rattle.race_model.specs.LocalEquations.{whole}
+use Rattle.std.proofs.Common.{◌≡◌, ℕ, suc, ◌+◌, ◌*◌, ◌%◌, ◌<◌, ◌≤◌, List, sym, ap, subst, ◌∙◌, arith, slice_index}
+use Rattle.race_model.specs.Prelude.{Board, IsPosition, IsFinished, pips, Throw, roll_at, roll_index, Legal, rank}
+use Rattle.race_model.specs.Prelude.{at_rank, most_rolls, whole, IsBestPlay}
 use Rattle.race_model.proofs.Plays.Results.{legal_position}
 use Rattle.race_model.proofs.Ranks.RankOrder.{at_rank-rank}
 use Rattle.race_model.proofs.Dice.Throws.{roll_of_index}
 use Rattle.race_model.proofs.Dice.RollSums.{roll_index-range}
-use Rattle.race_model.specs.BestPlays.{IsBestPlay}
 use Rattle.retrograde.specs.BuiltRecords.{shares_of, sum_of_means, sum_of_shares, IsMade, IsReached}
 use Rattle.race_model.proofs.Ranks.BestPlays.{legal_lower, play-at_end}
 use Rattle.retrograde.proofs.Turns.{mean-exact, shares-exact, none-beyond, pulled-reached}
@@ -61,7 +55,7 @@ module _ (x : Board) (at : IsPosition x) (unfinished : ¬ IsFinished x) (low : p
       × ((mean ≤ 22 * whole) × (36 * mean ≡ 36 * whole + sum_of_means means plays))
   can-pull_mean = mean-exact x at (omega arith) unfinished means spreads plays goes next-reached
 
-  -- .. and the shares
+  -- the shares can be pulled
   pub can-pull_shares : (k : ℕ) → k < 22 → sum_of_shares spreads plays k % 36 ≡ 0
   can-pull_shares =
       shares-exact x at (omega arith) unfinished means spreads plays goes next-reached
@@ -102,7 +96,7 @@ made-at_end means spreads x mean plays shares at none mean_is none_played start 
   share_before = λ unfinished. absurd (unfinished none);
 }
 
--- .. and that of another one
+-- the record of a position that isn't finished
 pub made-before :
     (means : List ℕ) (spreads : List (List ℕ)) (x : Board) (mean : ℕ) (plays shares : List ℕ) →
     ¬ IsFinished x →

@@ -1,23 +1,13 @@
 -- The record of the next rank, made by those of lower ranks, meets the equations of its position.
-use Rattle.std.proofs.Common.{◌≡◌, ⊎_elim, ◌⊎◌, ℕ, zero, suc, ◌+◌, ◌*◌, ◌^◌, ◌<◌, ◌≤◌, List, ap, sym, subst, ◌∙◌}
-use Rattle.std.proofs.Common.{refl, arith, cond, eq-eqb, ne_eqb, le_of_lt, take}
-use Rattle.std.specs.Prelude.{slice_index}
+use Rattle.std.proofs.Common.{◌≡◌, ⊎_elim, ◌⊎◌, ℕ, zero, suc, ◌+◌, ◌*◌, ◌^◌, ◌<◌, ◌≤◌, List, ap, sym, subst, ◌∙◌, refl}
+use Rattle.std.proofs.Common.{arith, cond, eq-eqb, ne_eqb, le_of_lt, take, slice_index}
 use Rattle.std.proofs.lemmas.Bool.{le-leb, lt-leb}
 use Rattle.std.proofs.lemmas.List.{take-take}
-use Rattle.race_model.specs.Positions.{Board, IsPosition, IsFinished, pips}
-use Rattle.race_model.specs.Dice.{Throw, IsRoll, roll_at, roll_index, weighted}
-use Rattle.race_model.specs.Plays.{Legal}
-use Rattle.race_model.specs.Ranks.{rank, at_rank}
-use Rattle.race_model.specs.Horizon.{most_rolls}
-use Rattle.race_model.specs.Strategies.{EndsIn}
-use Rattle.race_model.specs.BestPlays.{IsBestPlay}
-use Rattle.race_model.specs.Books.{play_in, IsPlayedIn}
-use Rattle.race_model.specs.LocalEquations.{HasMeanIn}
-use Rattle.race_model.specs.Endings.{HasCountIn}
-use Rattle.race_model.specs.BoardFiles.{Parts, board_book, board_length, board_record, value_of_parts, mean_parts}
-use Rattle.race_model.specs.BoardFiles.{board_play_of, count_parts, told_count, count_at}
-use Rattle.race_model.specs.WrittenNumbers.{IsWritten}
-use Rattle.race_model.specs.BoardEquations.{IsLocalOnBoard}
+use Rattle.race_model.specs.Prelude.{Board, IsPosition, IsFinished, pips, Throw, IsRoll, roll_at, roll_index, weighted}
+use Rattle.race_model.specs.Prelude.{Legal, rank, at_rank, most_rolls, EndsIn, IsBestPlay, play_in, IsPlayedIn}
+use Rattle.race_model.specs.Prelude.{HasMeanIn, HasCountIn, Parts, board_book, board_length, board_record}
+use Rattle.race_model.specs.Prelude.{value_of_parts, mean_parts, board_play_of, count_parts, told_count, count_at}
+use Rattle.race_model.specs.Prelude.{IsWritten, IsLocalOnBoard}
 use Rattle.race_model.proofs.Books.Boards.{local_of_counts}
 use Rattle.race_model.proofs.Positions.Points.{no_pips}
 use Rattle.race_model.proofs.RightFiles.ToldShares.{some_pips}
@@ -91,7 +81,7 @@ module _ (f g : List ℕ) (x : Board) (plays : List ℕ) (at : IsPosition x)
   play_is : (v : Throw) → play_in (board_book g) x v ≡ slice_index plays (roll_index v)
   play_is v = says.play_is (roll_index v) (roll_index-range v)
 
-  -- .. is the best one, by the means of either
+  -- the recorded play of a throw is the best one, by the means of either
   pub plays-best : PlaysBest g x
   plays-best v is =
       subst (λ r. IsBestPlay (board_mean g) x v r) (sym (play_is v))
@@ -151,7 +141,7 @@ module _ (f g : List ℕ) (x : Board) (plays : List ℕ) (at : IsPosition x)
       count_at-agree f g (rank x) same (slice_index plays i) k (below unfinished i inside)
       ∙ ap (λ r. count_at g r k) (sym (says.play_is i inside)))
 
-  -- .. are none from as many throws on as the game can take
+  -- there are no counts of what is played to from as many throws on as the game can take
   none_after : (m : ℕ) → EndsIn m x → ¬ IsFinished x → (k : ℕ) → k ≤ 33 → m ≤ k →
       weighted (λ v. count_at f (slice_index plays (roll_index v)) k) ≡ 0
   none_after zero ends unfinished k few le = absurd (unfinished ends)
@@ -205,7 +195,7 @@ module _ (f g : List ℕ) (x : Board) (plays : List ℕ) (at : IsPosition x)
       local_of_counts g x written
       (record { played = played; best = λ v is. (plays-best v is).least; mean_is = mean_is }) counts
 
-  -- .. and the records of one rank more are those of the built file
+  -- the records of one rank more are those of the built file
   pub built-next : IsBuiltTo g (rank x + 1)
   built-next = record {
     local = λ z there under. ⊎_elim

@@ -2,11 +2,7 @@
 use Rattle.std.proofs.Common.{◌≡◌, ℕ, ◌+◌, ◌<◌, ◌≤◌, List, ◌++◌, length, take}
 use Rattle.std.proofs.Common.{sym, ap, subst, ◌∙◌}
 use Rattle.std.proofs.lemmas.List.{append-nil}
-use Rattle.race_model.specs.Positions.{pips}
-use Rattle.race_model.specs.Ranks.{at_rank, count_to}
-use Rattle.race_model.specs.Versions.{Version, greatest_bound}
-use Rattle.race_model.specs.Files.{header, record_place}
-use Rattle.race_model.specs.BuiltFile.{IsBuilt}
+use Rattle.race_model.specs.Prelude.{pips, at_rank, count_to, Version, greatest_bound, header, record_place, IsBuilt}
 use Rattle.race_model.proofs.RightFiles.Places.{length_at, record_place-first}
 use Rattle.db_layout.specs.Records.{record_of}
 use Rattle.db_layout.specs.WholeFiles.{records_from}

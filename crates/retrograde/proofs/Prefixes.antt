@@ -2,9 +2,7 @@
 use Rattle.std.proofs.Common.{◌≡◌, ℕ, ◌-◌, ◌≤◌, List, [], Option, Result, Ok, Err, sym, subst, arith}
 use Rattle.std.specs.Io.KnownBytes.{Appends}
 use Rattle.std.specs.Result.{IsErrAnd}
-use Rattle.race_model.specs.Ranks.{first_of, count_to}
-use Rattle.race_model.specs.Versions.{Version, greatest_bound}
-use Rattle.race_model.specs.Files.{header}
+use Rattle.race_model.specs.Prelude.{first_of, count_to, Version, greatest_bound, header}
 use Rattle.race_model.proofs.Ranks.RankOrder.{count_to-rises}
 use Rattle.db_layout.specs.WholeFiles.{records_from}
 use Rattle.db_layout.specs.Writes.{AppendsPart}
@@ -53,7 +51,7 @@ module _ (version : Version) (full : AllRecords) (bound : ℕ)
       part-refused old new
       (ranks-part version bound (bytes_of_rank version full) (count_to bound) old new n le all)
 
-  -- .. and a prefix of the level after it
+  -- the file up to a rank and a prefix of the level after it
   pub level-part : (old mid new : Option (List ℕ)) (p : ℕ) → p ≤ bound →
       Appends old mid (built_to version full bound (first_of p)) →
       AppendsPart mid new
@@ -65,7 +63,7 @@ module _ (version : Version) (full : AllRecords) (bound : ℕ)
       (first_of p) (count_to p - first_of p)
       (omega (arith, level-end p, count_to-rises p bound le)) first part)
 
-  -- .. or the whole of it
+  -- the file up to a rank and the whole level after it
   pub level-written : (old mid new : Option (List ℕ)) (p : ℕ) →
       Appends old mid (built_to version full bound (first_of p)) →
       Appends mid new

@@ -1,17 +1,12 @@
 -- A turn before strategies that are known by their means and shares.
-use Rattle.std.proofs.Common.{◌≡◌, ⊎_elim, ℕ, zero, suc, ◌+◌, ◌*◌, ◌%◌, ◌<◌, ◌≤◌, List, sum_by, sym}
-use Rattle.std.proofs.Common.{subst, ◌∙◌, arith, le_of_lt}
-use Rattle.std.specs.Prelude.{slice_index}
+use Rattle.std.proofs.Common.{◌≡◌, ⊎_elim, ℕ, zero, suc, ◌+◌, ◌*◌, ◌%◌, ◌<◌, ◌≤◌, List, sum_by, sym, subst, ◌∙◌, arith}
+use Rattle.std.proofs.Common.{le_of_lt, slice_index}
 use Rattle.std.specs.List.{range_with_len}
 use Rattle.std.proofs.lemmas.List.Sums.{sum_by-cons}
 use Rattle.std.proofs.Math.Nat.{mul-mod_right, mul-le-mul_left}
-use Rattle.race_model.specs.Positions.{Board, IsPosition, IsFinished, pips}
-use Rattle.race_model.specs.Dice.{Throw, reversed, IsRoll, throws, roll_at, roll_index}
-use Rattle.race_model.specs.Plays.{Legal}
-use Rattle.race_model.specs.Ranks.{at_rank}
-use Rattle.race_model.specs.Horizon.{most_rolls}
-use Rattle.race_model.specs.LocalEquations.{whole}
-use Rattle.race_model.specs.Strategies.{Strategy, stop, turn, Fits, total, count_of, IsWithin, EndsIn}
+use Rattle.race_model.specs.Prelude.{Board, IsPosition, IsFinished, pips, Throw, reversed, IsRoll, throws, roll_at}
+use Rattle.race_model.specs.Prelude.{roll_index, Legal, at_rank, most_rolls, whole, Strategy, stop, turn, Fits, total}
+use Rattle.race_model.specs.Prelude.{count_of, IsWithin, EndsIn}
 use Rattle.race_model.proofs.Dice.Throws.{roll_or_reversed, index_of_roll, roll_index-reversed, legal_reversed}
 use Rattle.race_model.proofs.Numbers.Sums.{sum_by-equal}
 use Rattle.race_model.proofs.Dice.RollSums.{sum_by-throws}
@@ -129,7 +124,7 @@ module _ (x : Board) (at : IsPosition x) (low : pips x ≤ 58) (unfinished : ¬ 
     (total-small (turn to next) (within_22 x (turn to next) at low fits), total-is),
   )
 
-  -- .. and so can the shares
+  -- the shares can be pulled exactly
   pub shares-exact : (k : ℕ) → k < 22 → sum_of_shares spreads plays k % 36 ≡ 0
   shares-exact k lt =
       rw (← count-is k (le_of_lt lt)) (mul-mod_right 36 (count_of (turn to next) (suc k)))

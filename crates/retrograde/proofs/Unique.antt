@@ -1,20 +1,14 @@
 -- The record of a position follows from those of lower rank: whoever makes it makes this one.
-use Rattle.std.proofs.Common.{◌≡◌, ◌⊎◌, ⊎_elim, ℕ, zero, suc, ◌+◌, ◌*◌, ◌%◌, ◌<◌, ◌≤◌, List, length, sum_by}
-use Rattle.std.proofs.Common.{refl, sym, ap, subst, ◌∙◌, arith, ext_get_or}
+use Rattle.std.proofs.Common.{◌≡◌, ◌⊎◌, ⊎_elim, ℕ, zero, suc, ◌+◌, ◌*◌, ◌%◌, ◌<◌, ◌≤◌, List, length, sum_by, refl, sym}
+use Rattle.std.proofs.Common.{ap, subst, ◌∙◌, arith, ext_get_or, slice_index}
 use Rattle.std.proofs.lemmas.List.{get_or_past}
-use Rattle.std.specs.Prelude.{slice_index}
-use Rattle.race_model.specs.Positions.{Board, IsPosition, IsFinished, pips}
-use Rattle.race_model.specs.Dice.{Throw, all_rolls, roll_at, roll_index, weight}
-use Rattle.race_model.specs.Plays.{Legal}
-use Rattle.race_model.specs.Ranks.{rank, count_to}
-use Rattle.race_model.specs.Horizon.{most_rolls}
-use Rattle.race_model.specs.LocalEquations.{whole}
+use Rattle.race_model.specs.Prelude.{Board, IsPosition, IsFinished, pips, Throw, all_rolls, roll_at, roll_index, weight}
+use Rattle.race_model.specs.Prelude.{Legal, rank, count_to, most_rolls, whole, IsBestPlay}
 use Rattle.race_model.proofs.Ranks.BestPlays.{best-agree, best-one, legal_lower}
 use Rattle.race_model.proofs.Ranks.RankOrder.{rank_bound, at_rank-rank}
 use Rattle.race_model.proofs.Strategies.Horizons.{within_22, most_rolls-most}
 use Rattle.race_model.proofs.Numbers.Sums.{sum_by-equal}
 use Rattle.race_model.proofs.Dice.RollSums.{roll_index-range}
-use Rattle.race_model.specs.BestPlays.{IsBestPlay}
 use Rattle.retrograde.specs.BuiltRecords.{shares_of, sum_of_means, sum_of_shares, IsMade, IsReached}
 use Rattle.retrograde.specs.AllRecords.{AllRecords, mean_of_rank, plays_of_rank, shares_of_rank}
 use Rattle.retrograde.specs.KeptRecords.{IsRecordOfRank}
@@ -83,13 +77,14 @@ module _ (full : AllRecords) (x : Board) (at : IsPosition x) (low : pips x ≤ 5
 
   -- the record of the finished position
   pub record-at_end : IsFinished x → (mean : ℕ) (plays shares : List ℕ) → mean ≡ 0
-      → ((i : ℕ) → slice_index plays i ≡ 0) → length plays ≡ 21 → slice_index shares 0 ≡ whole
+      → ((i : ℕ) → i < 21 → slice_index plays i ≡ 0) → length plays ≡ 21
+      → slice_index shares 0 ≡ whole
       → ((k : ℕ) → slice_index shares (suc k) ≡ 0) → length shares ≡ 23
       → IsRecordOfRank full (rank x) mean plays shares
   record-at_end none mean plays shares mean_is none_played plays_len start more shares_len =
       record {
         mean_is = mean_is ∙ sym (made.mean_at_end none);
-        plays_are = plays-are plays plays_len (λ i lt. none_played i ∙ sym (stays i lt));
+        plays_are = plays-are plays plays_len (λ i lt. none_played i lt ∙ sym (stays i lt));
         shares_are = shares-are shares shares_len each;
       } where
         stays : (i : ℕ) → i < 21 → slice_index (plays_of_rank full (rank x)) i ≡ 0
@@ -102,7 +97,7 @@ module _ (full : AllRecords) (x : Board) (at : IsPosition x) (low : pips x ≤ 5
         each zero lt = start ∙ sym (made.start_at_end none)
         each (suc k) lt = more k ∙ sym (made.share_at_end none k)
 
-  -- .. and that of another one, with the best plays by the means of lower rank
+  -- the record of a position that isn't finished, with the best plays by the means of lower rank
   module _ (unfinished : ¬ IsFinished x) (means : List ℕ)
       (agree : (r : ℕ) → r < length means → slice_index means r ≡ mean_of_rank full r)
       (next : rank x ≡ length means)

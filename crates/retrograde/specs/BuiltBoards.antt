@@ -1,13 +1,7 @@
 -- The built board file of a bound. Source: the tie rule is this project's profile.
 use Rattle.std.specs.Prelude.{◌≡◌, ℕ, ◌<◌, ◌≤◌, List}
-use Rattle.race_model.specs.Positions.{Board, IsPosition, pips}
-use Rattle.race_model.specs.Dice.{Throw, IsRoll}
-use Rattle.race_model.specs.Ranks.{rank, count_to}
-use Rattle.race_model.specs.BestPlays.{IsBestPlay}
-use Rattle.race_model.specs.Files.{IsBytes, bound_of}
-use Rattle.race_model.specs.Books.{play_in}
-use Rattle.race_model.specs.BoardFiles.{board_book, board_place}
-use Rattle.race_model.specs.RightFiles.{IsRightBoard}
+use Rattle.race_model.specs.Prelude.{Board, IsPosition, pips, Throw, IsRoll, rank, count_to, IsBestPlay, IsBytes}
+use Rattle.race_model.specs.Prelude.{bound_of, play_in, board_book, board_place, IsRightBoard}
 use Rattle.db_layout.specs.LowerRecords.{AreLocalTo}
 use Rattle.retrograde.specs.declared.board_build_fault.BoardBuildFault.{BoardBuildFault}
 use Rattle.retrograde.specs.declared.board_build_fault.BoardBuildFault.TheVariants.{OverBound, Room}

@@ -1,9 +1,7 @@
--- The built file of a version and a bound, and what a build says. Source: this project's profile.
+-- The built file of a version and a bound, and what a build says.
 use Rattle.std.specs.Prelude.{ℕ, ◌<◌, ◌≤◌, List, Option, Result, Ok, Err}
 use Rattle.std.specs.Io.KnownBytes.{Appends, Keeps}
-use Rattle.race_model.specs.BuiltFile.{IsBuilt}
-use Rattle.race_model.specs.Ranks.{count_to}
-use Rattle.race_model.specs.Versions.{Version}
+use Rattle.race_model.specs.Prelude.{IsBuilt, count_to, Version}
 use Rattle.db_layout.specs.WholeFiles.{file_of}
 use Rattle.db_layout.specs.Writes.{AppendsPart}
 use Rattle.retrograde.specs.AllRecords.{AllRecords, bytes_of_rank}
@@ -14,7 +12,7 @@ use Rattle.retrograde.specs.declared.build_fault.BuildFault.TheVariants.{OverBou
 abbrev pub built_to : Version → AllRecords → ℕ → ℕ → List ℕ
 built_to version full bound n = file_of version bound (bytes_of_rank version full) n
 
--- .. and the whole of it
+-- the whole built file of a version and a bound
 abbrev pub built_file : Version → AllRecords → ℕ → List ℕ
 built_file version full bound = built_to version full bound (count_to bound)
 

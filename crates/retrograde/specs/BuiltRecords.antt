@@ -1,15 +1,9 @@
 -- The records that the builder has made, by rank, and the
 -- equations that each meets over those of lower rank.
--- Source: this project's profile.
 use Rattle.std.specs.Prelude.{◌≡◌, ℕ, suc, ◌+◌, ◌*◌, ◌<◌, ◌≤◌, List, [], length, slice_index, slice_index_or}
-use Rattle.race_model.specs.Positions.{Board, IsFinished, pips}
-use Rattle.race_model.specs.Dice.{roll_at, roll_index, weighted}
-use Rattle.race_model.specs.Ranks.{at_rank}
-use Rattle.race_model.specs.Versions.{Version}
-use Rattle.race_model.specs.LocalEquations.{whole}
-use Rattle.race_model.specs.Strategies.{Strategy, Fits, total, count_of}
+use Rattle.race_model.specs.Prelude.{Board, IsFinished, pips, roll_at, roll_index, weighted, at_rank, Version, whole}
+use Rattle.race_model.specs.Prelude.{Strategy, Fits, total, count_of, IsBestPlay}
 use Rattle.db_layout.specs.Records.{record_of, IsRecordOf}
-use Rattle.race_model.specs.BestPlays.{IsBestPlay}
 
 -- the shares of a rank, from none to 22 rolls
 abbrev pub shares_of : List (List ℕ) → ℕ → List ℕ
@@ -19,7 +13,7 @@ shares_of spreads r = slice_index_or spreads r []
 abbrev pub sum_of_means : List ℕ → List ℕ → ℕ
 sum_of_means means plays = weighted (λ v. slice_index means (slice_index plays (roll_index v)))
 
--- .. and of the shares of exactly k rolls
+-- the weighted sum of the shares of exactly k rolls that the rolls play to
 abbrev pub sum_of_shares : List (List ℕ) → List ℕ → ℕ → ℕ
 sum_of_shares spreads plays k =
     weighted (λ v. slice_index (shares_of spreads (slice_index plays (roll_index v))) k)

@@ -1,10 +1,7 @@
 -- What a build keeps of the records that it has made, by rank: all means, and all shares, in a room
--- with the places where those of each rank begin. Source: this project's profile.
+-- with the places where those of each rank begin.
 use Rattle.std.specs.Prelude.{◌≡◌, ℕ, ◌+◌, ◌-◌, ◌*◌, ◌<◌, ◌≤◌, List, length, slice_index}
-use Rattle.race_model.specs.Ranks.{first_of, count_to}
-use Rattle.race_model.specs.Versions.{Version}
-use Rattle.race_model.specs.Horizon.{most_rolls}
-use Rattle.race_model.specs.Files.{record_place}
+use Rattle.race_model.specs.Prelude.{first_of, count_to, Version, most_rolls, record_place}
 use Rattle.retrograde.specs.AllRecords.{AllRecords, mean_of_rank, plays_of_rank, shares_of_rank}
 use Rattle.retrograde.specs.KeptShares.{ArePlaces, shares_kept}
 

@@ -3,7 +3,7 @@
 use Rattle.std.specs.Prelude.{◌≡◌, ℕ, ◌+◌, ◌-◌, ◌*◌, ◌%◌, ◌<◌, ◌≤◌, List, map, slice_index}
 use Rattle.std.specs.List.{range_with_len}
 use Rattle.std.specs.Int.{w128, from_le_bytes}
-use Rattle.race_model.specs.Files.{bytes_at}
+use Rattle.race_model.specs.Prelude.{bytes_at}
 
 -- the shares of 0 to 22 rolls in bytes, 16 bytes each, and none beyond the bytes
 unfoldable pub shares_in : List ℕ → List ℕ

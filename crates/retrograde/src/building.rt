@@ -1,7 +1,7 @@
 //! The records of a bound, made and written level by level: a level is the positions of one pip
 //! count.
-ghost use Rattle.std.specs.Prelude.{◌≡◌, ◌≤◌, ◌⊎◌, []};
-ghost use Rattle.race_model.specs.Versions.{compact, version_by};
+ghost use Rattle.std.specs.Prelude.{◌≡◌, ◌≤◌, ◌⊎◌};
+ghost use Rattle.race_model.specs.Prelude.{compact, version_by};
 ghost use Rattle.db_layout.specs.Records.{IsVersion};
 ghost use Rattle.retrograde.specs.BuiltBytes.{Builds};
 ghost use Rattle.retrograde.specs.UsualVersion.{usual_version};
@@ -32,19 +32,19 @@ pub fn build<W: Write>(alloc: Global, bound: u8, writer: &mut W) -> Result<(), B
     let Some(header) = Header::new(usual_version(bound), bound) else {
         return Err(BuildFault::OverBound);
     };
-    build_in_memory(alloc, header, writer)
+    build_database(alloc, header, writer)
 }
 
-/// Writes the database of a pip bound of at most 58 as a file of version 2, whose records leave
-/// out the shares that are known without being stored. It tells the same means, plays and shares
-/// as the file that `build` writes, and the faults are those of `build`.
+/// Writes the database of a bound up to 58 as a file of version 2. Its records leave out the
+/// shares that are known without being stored. It tells the same means, plays and shares as the
+/// file that `build` writes, and the faults are those of `build`.
 pub fn build_compact<W: Write>(alloc: Global, bound: u8, writer: &mut W) -> Result<(), BuildFault>
     ensures built { Builds compact bound (W.contents writer.old) (W.contents writer.new) result }
 {
     let Some(header) = Header::new(COMPACT_VERSION, bound) else {
         return Err(BuildFault::OverBound);
     };
-    build_in_memory(alloc, header, writer)
+    build_database(alloc, header, writer)
 }
 
 /// The version of the file that `build` writes for a bound: 1 to 44 pips, and 2 beyond.
@@ -59,37 +59,16 @@ pub fn usual_version(bound: u8) -> u16
     }
 }
 
-/// Writes the database of the version and the bound of a header. Refused only for want of memory,
-/// or where a `write` failed or took no byte.
-// so that its room is on the stack while it builds, and not while its caller goes on
-#[inline(never)]
-fn build_in_memory<W: Write>(
-    alloc: Global,
-    header: Header,
-    writer: &mut W,
-) -> Result<(), BuildFault>
-    ensures built { Builds (version_by header.version) header.bound (W.contents writer.old)
-        (W.contents writer.new) result }
-{
-    let mut records = Records::new(alloc);
-    build_records(&mut records, header, writer)
-}
-
-/// Writes the database of the version and the bound of a header, with records that hold none
-/// yet. Refused only for want of memory, or where a `write` failed or took no byte.
-pub(crate) fn build_records<W: Write>(
-    records: &mut Records,
-    header: Header,
-    writer: &mut W,
-) -> Result<(), BuildFault>
-    requires { records.old.places.items ≡ [] }
+/// Writes the database of a header. Refused only for want of memory, or where a `write` failed or
+/// took no byte.
+fn build_database<W: Write>(alloc: Global, header: Header, writer: &mut W) -> Result<(), BuildFault>
     ensures built { Builds (version_by header.version) header.bound (W.contents writer.old)
         (W.contents writer.new) result }
 {
     if usize::from(header.count) <= ROWS_TO_8 {
-        build_with_rows::<W, ROWS_TO_8>(records, header, writer)
+        build_with_rows::<W, ROWS_TO_8>(alloc, header, writer)
     } else {
-        build_with_rows::<W, ROWS_TO_90>(records, header, writer)
+        build_with_rows::<W, ROWS_TO_90>(alloc, header, writer)
     }
 }
 
@@ -97,11 +76,10 @@ pub(crate) fn build_records<W: Write>(
 // so that no more rows are on the stack than are needed
 #[inline(never)]
 fn build_with_rows<W: Write, const ROWS: usize>(
-    records: &mut Records,
+    alloc: Global,
     header: Header,
     writer: &mut W,
 ) -> Result<(), BuildFault>
-    requires none { records.old.places.items ≡ [] }
     requires few { ROWS ≤ 11452 }
     requires rows { (header.count ≤ ROWS) ⊎ (ROWS ≡ 11452) }
     ensures built { Builds (version_by header.version) header.bound (W.contents writer.old)
@@ -109,6 +87,7 @@ fn build_with_rows<W: Write, const ROWS: usize>(
 {
     let ranks = Ranks::new();
     let mut least: LeastPlays<ROWS> = LeastPlays::new();
+    let mut records = Records::new(alloc);
     records.grow(&header, &ranks, 0)?;
     write_header(&header, writer)?;
     for pips in 0..header.bound + 1 {

@@ -2,10 +2,7 @@
 //! record is written in its place, by those that stand before it.
 ghost use Rattle.std.specs.Prelude.{◌≡◌, ℕ, ◌+◌, ◌<◌, ◌≤◌, ◌↔◌, ◌⊎◌, ◌++◌, length, take, drop};
 ghost use Rattle.std.specs.Prelude.{IsSome, IfSome, IfNone, IfOk, IfErr};
-ghost use Rattle.race_model.specs.Versions.{version_by};
-ghost use Rattle.race_model.specs.Files.{IsBytes, record_place};
-ghost use Rattle.race_model.specs.BoardFiles.{board_place};
-ghost use Rattle.race_model.specs.BuiltFile.{IsBuilt};
+ghost use Rattle.race_model.specs.Prelude.{version_by, IsBytes, record_place, board_place, IsBuilt};
 ghost use Rattle.retrograde.specs.BuiltBoards.{IsBuiltBoard, IsBoardRefusedBy};
 
 use crate::board_build_fault::BoardBuildFault;
@@ -28,11 +25,10 @@ const POSITIONS: usize = 54264;
 /// How many bytes a record of a board file has at most.
 const BOARD_RECORD_BYTES: usize = 594;
 
-/// Builds the database of the version and the bound of a header in the first bytes of a room, and
-/// says how many they are; none exactly where one of the two rooms is smaller than the file, and
-/// then `room` is as it was. While it builds, `work` holds the shares as numbers that are read
-/// without being turned round. It takes no memory but the stack, of which it needs less than 1.5
-/// MB, and less than 128 KB to 8 pips.
+/// Builds the database of a header at the start of a buffer, and returns its size; none exactly
+/// where one of the two rooms is smaller than the file, and then `room` is as it was. While it
+/// builds, `work` holds the shares as numbers that are read without being turned round. It takes
+/// no memory but the stack, of which it needs less than 1.5 MB, and less than 128 KB to 8 pips.
 pub fn build_in_room(header: &Header, work: &mut [u8], room: &mut [u8]) -> Option<usize>
     ensures some { IsSome result
         ↔ ((record_place (version_by header.now.version) header.now.count ≤ length work.old)
@@ -57,8 +53,8 @@ pub fn build_in_room(header: &Header, work: &mut [u8], room: &mut [u8]) -> Optio
     Some(count)
 }
 
-/// Builds the file with this header in a room that is no smaller, with so many rows for the best
-/// plays, and fewer means than there are places.
+/// Builds the file with this header in a buffer that is large enough. There are `ROWS` rows for
+/// the best plays, and fewer means than places.
 // so that no more of them are on the stack than are needed
 #[inline(never)]
 fn fill<const ROWS: usize, const PLACES: usize>(header: &Header, work: &mut [u8], room: &mut [u8])
@@ -96,14 +92,14 @@ fn fill<const ROWS: usize, const PLACES: usize>(header: &Header, work: &mut [u8]
     }
 }
 
-/// Builds the board file of a pip bound in the first bytes of a room, and says how many they are:
-/// for each position of at most so many pips the least mean number of rolls, for each roll the
-/// lowest rank of the results that reach it, and for each number of throws how many sequences of
-/// so many end the game with the last one. No other bytes are the built file of that bound
-/// (`law_built_boards`). It takes no memory but the stack, of which it needs some 0.9 MB.
-/// `OverBound` where the bound is over 90, and else `Room` where the room is smaller than the
-/// file; then the room is as it was. (What is counted is that of a one-sided database of the GNU
-/// Backgammon manual; the exact numbers, the file and the tie rule are this project's profile.)
+/// Builds a board file at the start of a buffer, and returns its size: for each position of at
+/// most so many pips the least mean number of rolls, for each roll the lowest rank of the results
+/// that reach it, and for each number of throws how many sequences of so many end the game with
+/// the last one. No other bytes are the built file of that bound (`law_built_boards`). It takes no
+/// memory but the stack, of which it needs some 0.9 MB. `OverBound` where the bound is over 90,
+/// and else `Room` where the room is smaller than the file; then the room is as it was. (What is
+/// counted is that of a one-sided database of the GNU Backgammon manual; the exact numbers, the
+/// file and the tie rule are this project's profile.)
 pub fn build_board(bound: u8, room: &mut [u8]) -> Result<usize, BoardBuildFault>
     ensures built { IfOk result (λ count. IsBuiltBoard bound (take count room.new)) }
     ensures room { IfOk result (λ count. count ≤ length room.old) }
@@ -127,8 +123,8 @@ pub fn build_board(bound: u8, room: &mut [u8]) -> Result<usize, BoardBuildFault>
     Ok(count)
 }
 
-/// Builds the file with this header in a room that is no smaller, with so many rows for the best
-/// plays, and so many starts of records.
+/// Builds the board file with this header in a buffer that is large enough. There are `ROWS` rows
+/// for the best plays, and `COUNT` starts of records.
 // so that no more rows are on the stack than are needed
 #[inline(never)]
 fn fill_board<const ROWS: usize, const COUNT: usize>(header: &BoardHeader, room: &mut [u8])

@@ -3,8 +3,7 @@
 ghost use Rattle.std.specs.Prelude.{◌≡◌, ℕ, ◌+◌, ◌*◌, ◌/◌, ◌%◌, ◌^◌, ◌<◌, ◌≤◌, length, take, sum};
 ghost use Rattle.std.specs.Prelude.{slice_index};
 ghost use Rattle.std.specs.Int.{w128, from_le_bytes, to_le_bytes};
-ghost use Rattle.race_model.specs.LocalEquations.{whole};
-ghost use Rattle.race_model.specs.Files.{bytes_at};
+ghost use Rattle.race_model.specs.Prelude.{whole, bytes_at};
 ghost use Rattle.retrograde.specs.KeptShares.{shares_in, shares_kept, ArePlaces};
 
 use fixed_fraction::{Distribution, Scaled, Spread};
@@ -90,11 +89,18 @@ impl<'a> KeptRecords<'a> {
 impl<'a> least_plays::RankedMeans for KeptRecords<'a> {
     ghost mean = { λ records. slice_index records.means.now };
 
+    ghost leading = { λ records rank. slice_index records.means.now rank / 2 ^ 64 };
+
     ghost count = { λ records. length records.means.now };
 
     #[inline(always)]
     fn is_less(&self, one: u16, other: u16) -> bool {
         self.mean(one).numerator() < self.mean(other).numerator()
+    }
+
+    #[inline(always)]
+    fn leading_bits(&self, rank: u16) -> u64 {
+        (self.mean(rank).numerator() >> 64) as u64
     }
 }
 
@@ -150,8 +156,8 @@ fn put_low(room: &mut [u8], place: usize, number: u128)
     room[place..place + 16].copy_from_slice(&low_bytes(number));
 }
 
-/// The 16 bytes of a number, low byte first, by two of 64 bits, each of which a compiler writes at
-/// once, and one of 128 bits byte by byte.
+/// The 16 bytes of a number, low byte first. It uses two halves, which a compiler writes at once,
+/// while it writes 128 bits byte by byte.
 #[inline(always)]
 fn low_bytes(number: u128) -> [u8; 16]
     ensures { result ≡ to_le_bytes w128 number }

@@ -1,11 +1,7 @@
 //! The laws of built board files: there is one for each bound, and it says what a built database
 //! does.
 ghost use Rattle.std.specs.Prelude.{◌≡◌, ℕ, ◌↔◌, List};
-ghost use Rattle.race_model.specs.Versions.{Version};
-ghost use Rattle.race_model.specs.BoardFiles.{board_book};
-ghost use Rattle.race_model.specs.BuiltFile.{IsBuilt};
-ghost use Rattle.race_model.specs.Queries.{IsWithinAlike};
-ghost use Rattle.race_model.specs.Replies.{IsReply, IsReplyIn};
+ghost use Rattle.race_model.specs.Prelude.{Version, board_book, IsBuilt, IsWithinAlike, IsReply, IsReplyIn};
 ghost use Rattle.retrograde.specs.BuiltBoards.{IsBuiltBoard};
 
 use race_model::laws::law_replies;

@@ -1,8 +1,6 @@
 //! The records of a pip count, made by those of fewer pips, in rooms that are lent.
 ghost use Rattle.std.specs.Prelude.{◌≡◌, ◌+◌, ◌-◌, ◌≤◌, ◌⊎◌, ◌++◌, length, take, drop, slice_index};
-ghost use Rattle.race_model.specs.Ranks.{first_of, count_to};
-ghost use Rattle.race_model.specs.Versions.{version_by};
-ghost use Rattle.race_model.specs.Files.{bytes_at, record_place};
+ghost use Rattle.race_model.specs.Prelude.{first_of, count_to, version_by, bytes_at, record_place};
 ghost use Rattle.db_layout.specs.WholeFiles.{records_from};
 ghost use Rattle.least_plays.specs.Known.{Knows};
 ghost use Rattle.retrograde.specs.AllRecords.{AllRecords, mean_of_rank, bytes_of_rank};
@@ -10,8 +8,9 @@ ghost use Rattle.retrograde.specs.KeptRecords.{AreKept, HasRoom, level_shares};
 
 use crate::kept_shares::{KeptRecords, keep};
 use crate::pulling::next_record;
-use db_layout::{Header, Kind, most_rolls, record_bytes};
-use fixed_fraction::Scaled;
+use arrayvec::ArrayVec;
+use db_layout::{Header, Kind, most_rolls, put_record_bytes};
+use fixed_fraction::{Scaled, Spread, Sums};
 use least_plays::LeastPlays;
 use ranking::Ranks;
 
@@ -50,6 +49,9 @@ pub(crate) fn add_level<const ROWS: usize>(
 {
     let end = most_rolls(pips) + 1;
     let mut start = 0;
+    let mut bytes = ArrayVec::new();
+    let mut sums = Sums::finished();
+    let mut spread = Spread::finished();
     for rank in ranks.first_of(pips)..ranks.count_to(pips) {
         let position = ranks.unrank(rank).unwrap();
         let index = usize::from(rank);
@@ -59,10 +61,10 @@ pub(crate) fn add_level<const ROWS: usize>(
             room: shares,
         };
         let plays = least.advance(ranks, &position, &lower);
-        let made = next_record(&position, plays, &lower);
-        means[index] = made.mean;
-        keep(shares, places, rank, end, &made.spread);
-        let bytes = record_bytes(header, pips, made.mean, &made.plays, &made.spread);
+        let mean = next_record(&position, &plays, &lower, &mut sums, &mut spread);
+        means[index] = mean;
+        keep(shares, places, rank, end, &spread);
+        put_record_bytes(&mut bytes, header, pips, mean, &plays, &spread);
         start = put_bytes(level, start, bytes.as_slice());
     }
 }

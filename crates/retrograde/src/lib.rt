@@ -13,7 +13,6 @@ pub use in_room::{build_board, build_in_room};
 pub use laws::law_built_boards;
 pub use means::Means;
 pub use plays::best_play;
-pub use ready_build::ReadyBuild;
 
 pub mod board_build_fault;
 mod board_record;
@@ -26,5 +25,4 @@ mod level;
 pub mod means;
 pub mod plays;
 mod pulling;
-pub mod ready_build;
 mod records;

@@ -1,18 +1,14 @@
 //! The best play of a roll, by the means of fewer pips.
 ghost use Rattle.std.specs.Prelude.{◌≡◌, ℕ, ◌<◌, ◌≤◌, ◌⊎◌, ◌↔◌, List, length, slice_index, IsTrue, All, Any};
-ghost use Rattle.race_model.specs.Positions.{pips};
-ghost use Rattle.race_model.specs.Plays.{Legal};
-ghost use Rattle.race_model.specs.Ranks.{rank as rank_of, first_of};
-ghost use Rattle.race_model.specs.BestPlays.{IsBestPlay};
+ghost use Rattle.race_model.specs.Prelude.{pips, Legal, rank as rank_of, first_of, IsBestPlay};
 
 use crate::means::Means;
 use home_board::Position;
 use legal_plays::{Roll, results};
 use ranking::Ranks;
 
-/// The rank of the result of a roll with the least mean and, of equal means, the lowest rank. The
-/// means hold every rank of fewer pips than the position has. (The tie rule is this project's
-/// profile.)
+/// The rank of a roll's best result; of equal means, the lowest rank. The means hold every rank of
+/// fewer pips than the position has. (The tie rule is this project's profile.)
 pub fn best_play(position: &Position, roll: Roll, means: &Means) -> u16
     requires { first_of (pips position.now) ≤ length means.now }
     ensures { IsBestPlay (slice_index means.now) position.now roll result }

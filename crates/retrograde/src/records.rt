@@ -1,7 +1,6 @@
 //! What a build keeps of its records, in memory that grows.
-ghost use Rattle.std.specs.Prelude.{◌≡◌, ◌≤◌, [], IfOk, OnOk};
-ghost use Rattle.race_model.specs.Ranks.{first_of};
-ghost use Rattle.race_model.specs.Versions.{version_by};
+ghost use Rattle.std.specs.Prelude.{◌≡◌, ◌≤◌, [], OnOk};
+ghost use Rattle.race_model.specs.Prelude.{first_of, version_by};
 ghost use Rattle.retrograde.specs.KeptRecords.{AreKept, HasRoom};
 
 use crate::level::{level_place, shares_of_level};
@@ -31,26 +30,6 @@ impl Records {
             shares: Vec::new(alloc),
             level: Vec::new(alloc),
         }
-    }
-
-    /// No record yet, and room for all records of a header.
-    pub fn with_room(alloc: Global, header: &Header) -> Result<Self, AllocError>
-        ensures { IfOk result (λ records. records.places.items ≡ []) }
-    {
-        let ranks = Ranks::new();
-        let mut shares = 0;
-        let mut most = 0;
-        for pips in 0..header.bound + 1 {
-            let (start, end) = level_place(header, &ranks, pips);
-            shares += shares_of_level(&ranks, pips);
-            most = most.max(end - start);
-        }
-        Ok(Records {
-            means: Vec::with_capacity(alloc, usize::from(header.count))?,
-            places: Vec::with_capacity(alloc, usize::from(header.count) + 1)?,
-            shares: Vec::with_capacity(alloc, shares)?,
-            level: Vec::with_capacity(alloc, most)?,
-        })
     }
 
     /// Makes room for the records of a pip count, where those of fewer pips are kept. Refused only

@@ -1,5 +1,5 @@
 use Rattle.std.proofs.Common.{◌≤◌, arith}
-use Rattle.race_model.specs.Positions.{pips}
+use Rattle.race_model.specs.Prelude.{pips}
 use Rattle.race_model.proofs.Ranks.RankOrder.{rank_bound}
 use Rattle.certificate.proofs.checked.load.Goals as goal
 

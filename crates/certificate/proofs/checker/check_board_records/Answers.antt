@@ -1,10 +1,7 @@
 -- The records are checked by rising rank; each is accepted or has the first fault.
 use Rattle.std.proofs.Common.{◌≡◌, ◌+◌, ◌<◌, length, sym, ap, subst, ◌∙◌, arith, rules}
-use Rattle.race_model.specs.Ranks.{count_to}
-use Rattle.race_model.specs.Files.{bound_of}
-use Rattle.race_model.specs.BoardFiles.{board_book, board_place, IsBoardFile}
-use Rattle.race_model.specs.BoardEquations.{HoldsOnBoard, IsLocalOnBoard}
-use Rattle.race_model.specs.Headers.{IsFirstBoardHeaderFault}
+use Rattle.race_model.specs.Prelude.{count_to, bound_of, board_book, board_place, IsBoardFile, HoldsOnBoard}
+use Rattle.race_model.specs.Prelude.{IsLocalOnBoard, IsFirstBoardHeaderFault}
 use Rattle.race_model.proofs.Ranks.PositionTotals.{count_to-most}
 use Rattle.db_layout.proofs.BoardPlaces.{board_place-least, board_place-next}
 use Rattle.db_layout.specs.LowerRecords.{Lower, board_mean}

@@ -1,6 +1,6 @@
 -- An accepted header counts the ranks of at most 58 pips.
 use Rattle.std.proofs.Common.{◌<◌, arith}
-use Rattle.race_model.specs.Ranks.{count_to}
+use Rattle.race_model.specs.Prelude.{count_to}
 use Rattle.race_model.proofs.Ranks.RankOrder.{count_to-rises}
 use Rattle.race_model.proofs.Ranks.PositionTotals.{count_to-58, twenty_five_levels}
 use Rattle.db_layout.proofs.Bounds.{bound-most}

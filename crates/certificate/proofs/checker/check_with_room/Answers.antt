@@ -1,10 +1,6 @@
 -- The records are checked by rising rank; each is accepted or has the first fault.
 use Rattle.std.proofs.Common.{◌+◌, Err, length, take, sym, ap, subst, ◌∙◌, arith, rules}
-use Rattle.race_model.specs.Ranks.{count_to}
-use Rattle.race_model.specs.Files.{IsFile, book_of}
-use Rattle.race_model.specs.FirstFault.{Holds}
-use Rattle.race_model.specs.Headers.{IsFirstHeaderFault}
-use Rattle.race_model.specs.LocalEquations.{IsLocalAt}
+use Rattle.race_model.specs.Prelude.{count_to, IsFile, book_of, Holds, IsFirstHeaderFault, IsLocalAt}
 use Rattle.certificate.specs.CheckFaults.{IsFirst}
 use Rattle.certificate.specs.KeptMeans.{kept_mean}
 use Rattle.certificate.specs.LowerRecords.{IsLower}

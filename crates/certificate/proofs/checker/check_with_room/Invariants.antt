@@ -1,8 +1,6 @@
 -- What is known before the record of a rank is checked.
 use Rattle.std.proofs.Common.{◌<◌}
-use Rattle.race_model.specs.Positions.{Board, IsPosition}
-use Rattle.race_model.specs.Ranks.{rank}
-use Rattle.race_model.specs.LocalEquations.{IsLocalAt}
+use Rattle.race_model.specs.Prelude.{Board, IsPosition, rank, IsLocalAt}
 use Rattle.db_reader.specs.Telling.{WhereTold}
 use Rattle.db_reader.specs.TableStays.{TableStays}
 use Rattle.certificate.specs.LowerRecords.{IsLower}

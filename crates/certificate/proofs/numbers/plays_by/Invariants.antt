@@ -1,6 +1,5 @@
-use Rattle.std.proofs.Common.{◌≡◌, ℕ, ◌<◌, length}
-use Rattle.std.specs.Prelude.{slice_index}
-use Rattle.race_model.specs.Dice.{roll_at}
+use Rattle.std.proofs.Common.{◌≡◌, ℕ, ◌<◌, length, slice_index}
+use Rattle.race_model.specs.Prelude.{roll_at}
 use Rattle.certificate.proofs.numbers.plays_by.Given as goal
 
 -- the plays of the rolls of lower index are said

@@ -1,7 +1,5 @@
-use Rattle.std.proofs.Common.{◌≡◌, ◌∙◌, ap, rules}
-use Rattle.std.specs.Prelude.{slice_index}
-use Rattle.race_model.specs.Dice.{roll_at, roll_index}
-use Rattle.race_model.specs.Files.{play_of}
+use Rattle.std.proofs.Common.{◌≡◌, ◌∙◌, ap, rules, slice_index}
+use Rattle.race_model.specs.Prelude.{roll_at, roll_index, play_of}
 use Rattle.race_model.proofs.Dice.Throws.{roll_of_index}
 use Rattle.certificate.proofs.RecordBytes.{are_plays}
 use Rattle.certificate.proofs.numbers.plays_in.Goals as goal

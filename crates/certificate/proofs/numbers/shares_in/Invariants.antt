@@ -1,5 +1,5 @@
 use Rattle.std.proofs.Common.{◌≡◌, ℕ, ◌<◌, length, get_or}
-use Rattle.race_model.specs.Files.{share_of}
+use Rattle.race_model.specs.Prelude.{share_of}
 use Rattle.certificate.proofs.numbers.shares_in.Given as goal
 
 -- the shares of fewer rolls are read

@@ -1,6 +1,6 @@
 -- The shares add up to the whole, as was known or tested.
 use Rattle.std.proofs.Common.{◌≡◌, sum, ap, ◌∙◌}
-use Rattle.race_model.specs.LocalEquations.{whole}
+use Rattle.race_model.specs.Prelude.{whole}
 use Rattle.certificate.specs.RecordNumbers.{shares_of}
 use Rattle.certificate.proofs.PlaySums.{told_by-same}
 use Rattle.certificate.proofs.play_sums.accepted.Goals.{else-not-is_known-via-then-not-is_known+else-is_none}

@@ -1,14 +1,9 @@
 -- The tests of one record.
 use Rattle.std.proofs.Common.{◌≡◌, ◌↔◌, ℕ, ◌<◌, ◌≤◌, slice_index, refl, sym, ap, subst, ◌∙◌, rules}
 use Rattle.std.proofs.lemmas.Bool.{false≢true}
-use Rattle.race_model.specs.Positions.{Board, IsPosition, pips}
-use Rattle.race_model.specs.Ranks.{rank, at_rank}
-use Rattle.race_model.specs.Dice.{roll_at, roll_index}
-use Rattle.race_model.specs.Horizon.{most_rolls}
-use Rattle.race_model.specs.BoardFiles.{board_book, board_record, board_play_of}
-use Rattle.race_model.specs.BoardEquations.{HoldsOnBoard, IsLocalOnBoard}
-use Rattle.race_model.specs.FirstFault.{spread_test}
-use Rattle.race_model.specs.Books.{play_in, whole_in}
+use Rattle.race_model.specs.Prelude.{Board, IsPosition, pips, rank, at_rank, roll_at, roll_index, most_rolls}
+use Rattle.race_model.specs.Prelude.{board_book, board_record, board_play_of, HoldsOnBoard, IsLocalOnBoard, spread_test}
+use Rattle.race_model.specs.Prelude.{play_in, whole_in}
 use Rattle.race_model.proofs.Books.Boards.{board_share_is_count, local_of_counts}
 use Rattle.certificate.specs.BoardTests.{IsTested, MeanHolds, CountHolds}
 use Rattle.certificate.specs.RecordFaults.{IsFirstFaultOnBoardAt, IsNumberFault}
@@ -47,14 +42,14 @@ module _ (c : After-plays_by-recorded) where
   AreLeast = (i : ℕ) → i < 21 → IsLeastPlay (board_mean c.args.lower.now.bytes)
       c.unwrap-position.result (roll_at i) (slice_index c.plays_by-recorded.result i)
 
-  -- .. and what they tell of the book
+  -- what the tests of the plays tell of the book
   held-here : AreLeast → ArePlays (board_book c.args.lower.now.bytes) c.unwrap-position.result
   held-here =
       plays-hold (board_book c.args.lower.now.bytes) c.unwrap-position.result
       (slice_index c.plays_by-recorded.result) read at (board_mean c.args.lower.now.bytes)
       (λ _ v z legal. refl)
 
-  -- .. and of the record
+  -- what the tests of the plays tell of the record
   tested : AreLeast → IsTested c.args.lower.now c.unwrap-position.result c.args.stored.now
       (slice_index c.plays_by-recorded.result)
   tested least = record {

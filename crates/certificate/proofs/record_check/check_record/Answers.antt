@@ -1,21 +1,15 @@
 -- The tests of the record of one rank, from its plays to its shares.
 use Rattle.std.proofs.Common.{◌≡◌, ℕ, ◌+◌, ◌<◌, ◌≤◌, List, Some, slice_index, sym, ap}
 use Rattle.std.proofs.Common.{subst, ◌∙◌, arith, rules}
-use Rattle.race_model.specs.Positions.{Board, IsPosition, IsFinished, pips}
-use Rattle.race_model.specs.Ranks.{rank, count_to, at_rank}
-use Rattle.race_model.specs.Dice.{Throw, roll_at}
-use Rattle.race_model.specs.Plays.{Legal}
-use Rattle.race_model.specs.BestPlays.{IsBestPlay}
-use Rattle.race_model.specs.FirstFault.{Holds}
-use Rattle.race_model.specs.LocalEquations.{IsLocalAt}
-use Rattle.race_model.specs.Files.{bound_of, record_at, mean_of, share_of, mean_at, play_of, play}
+use Rattle.race_model.specs.Prelude.{Board, IsPosition, IsFinished, pips, rank, count_to, at_rank, Throw, roll_at}
+use Rattle.race_model.specs.Prelude.{Legal, IsBestPlay, Holds, IsLocalAt, bound_of, record_at, mean_of, share_of}
+use Rattle.race_model.specs.Prelude.{mean_at, play_of, play, book_of}
 use Rattle.race_model.proofs.Dice.Throws.{roll_of_index}
 use Rattle.race_model.proofs.Plays.Results.{legal_position, legal_pips}
 use Rattle.race_model.proofs.Plays.Spent.{legal_takes}
 use Rattle.race_model.proofs.Ranks.RankOrder.{rank_bound}
 use Rattle.race_model.proofs.Ranks.BestPlays.{legal_lower}
 use Rattle.race_model.proofs.RightFiles.Right.{bound_of-most}
-use Rattle.race_model.specs.Files.{book_of}
 use Rattle.least_plays.specs.Recorded.{IsLeastPlay}
 use Rattle.least_plays.specs.declared.recorded.PlayFault.{PlayFault}
 use Rattle.least_plays.specs.declared.recorded.PlayFault.TheVariants.{NotLegal, NotLeast}
@@ -29,7 +23,7 @@ use Rattle.db_reader.proofs.Failures.{rose_as, table_as, table_more, err-same}
 use Rattle.std.proofs.lemmas.Bool.{false≢true}
 use Rattle.certificate.specs.KeptMeans.{kept_mean}
 use Rattle.certificate.specs.RecordFaults.{IsFirstFaultAt, IsNumberFault, of_refused}
-use Rattle.certificate.specs.RecordNumbers.{IsMeanOf, IsShareOf, AreSumsOf}
+use Rattle.certificate.specs.RecordNumbers.{IsMeanOf, IsShareOf, AreSumsOf, sums_if}
 use Rattle.certificate.proofs.Accepted.{play-of_lent}
 use Rattle.certificate.proofs.RecordBytes.{mean-of_record, get_or-plays_of}
 use Rattle.certificate.proofs.KeptMeans.{accepted-mean_more}
@@ -226,9 +220,10 @@ module _ (g : Over) (c : After-lend-view g) (file : List ℕ)
   plays-here = subst (ArePlays (book_of file)) position-is
 
   -- the sums are those of its plays
-  summed : AreSumsOf file (at_rank c.args.rank) c.in-Ok.sums
+  summed : AreSumsOf file (at_rank c.args.rank) (sums_if c.in-Ok.has_sums c.sum_plays.new.sums)
   summed =
-      subst (λ (x : Board). AreSumsOf file x c.in-Ok.sums) position-is
+      subst (λ (x : Board). AreSumsOf file x (sums_if c.in-Ok.has_sums c.sum_plays.new.sums))
+      position-is
       ((c.in-Ok.ensures {u = tt}).totals file ((c.in_default.ensures {u = tt}).stays ∙ told))
 
 -- no read failed where the numbers of the record are tested
@@ -252,15 +247,18 @@ pub returns-in-Err-check_numbers-clause-stays : goal.returns-in-Err-check_number
 returns-in-Err-check_numbers-clause-stays g c =
     let at = (goal.at.returns-in-Err-check_numbers-clause-stays g c).After-lend-view in
     table_as (unread g at)
-    (λ e. number-read (IsMeanOf (mean_of c.lend-view.result) c.in-Ok.sums)
-    (IsShareOf (share_of c.lend-view.result) c.in-Ok.sums) 22 c.in-Err-check_numbers.fault
+    (λ e. number-read
+    (IsMeanOf (mean_of c.lend-view.result) (sums_if c.in-Ok.has_sums c.sum_plays.new.sums))
+    (IsShareOf (share_of c.lend-view.result) (sums_if c.in-Ok.has_sums c.sum_plays.new.sums))
+    22 c.in-Err-check_numbers.fault
     (c.in-Err-check_numbers.ensures {u = tt}).fault (err-same e))
     (λ no. absurd no)
 
 pub returns-in-Err-check_numbers-clause-first : goal.returns-in-Err-check_numbers-clause-first
 returns-in-Err-check_numbers-clause-first g c file told =
     let at = (goal.at.returns-in-Err-check_numbers-clause-first g c).After-lend-view in
-    first-wrong file c.lend-view.result c.args.rank c.in-Ok.sums (below_count g at file told)
+    first-wrong file c.lend-view.result c.args.rank
+    (sums_if c.in-Ok.has_sums c.sum_plays.new.sums) (below_count g at file told)
     (bound_of-most file (c.requires.file file told).file) (c.requires.lower file told)
     (lent g at file told) (plays-here g at file told
     (held-here g (goal.at.returns-in-Err-check_numbers-clause-first g c).After-plays_in-recorded
@@ -276,7 +274,8 @@ returns-clause-stays g c =
 pub returns-clause-local : goal.returns-clause-local
 returns-clause-local g c file told =
     let at = (goal.at.returns-clause-local g c).After-lend-view in
-    right-numbers file c.lend-view.result c.args.rank c.in-Ok.sums (below_count g at file told)
+    right-numbers file c.lend-view.result c.args.rank
+    (sums_if c.in-Ok.has_sums c.sum_plays.new.sums) (below_count g at file told)
     (bound_of-most file (c.requires.file file told).file) (c.requires.lower file told)
     (lent g at file told) (plays-here g at file told
     (held-here g (goal.at.returns-clause-local g c).After-plays_in-recorded file told

@@ -1,9 +1,7 @@
 -- The sums are those of what is recorded.
-use Rattle.std.proofs.Common.{◌≡◌, ⊎_elim, ℕ, ◌<◌, ◌≤◌, List, Some, sym, ap, subst, ◌∙◌, arith, get_or}
+use Rattle.std.proofs.Common.{◌≡◌, ⊎_elim, ℕ, ◌<◌, ◌≤◌, List, Some, sym, ap, subst, ◌∙◌, arith, get_or, rules}
 use Rattle.std.proofs.lemmas.Bool.{false≢true}
-use Rattle.race_model.specs.Positions.{IsFinished}
-use Rattle.race_model.specs.Dice.{roll_at}
-use Rattle.race_model.specs.Files.{record_at, spread_at}
+use Rattle.race_model.specs.Prelude.{IsFinished, roll_at, record_at, spread_at}
 use Rattle.certificate.specs.PlaySums.{IsAccepted}
 use Rattle.certificate.proofs.PlayNumbers.{play-accepted, play-before, play-beyond, sums-are}
 use Rattle.certificate.proofs.PlaySums.{passes_or_not}
@@ -54,22 +52,22 @@ module _ (g : Over) (c : After-range_of-first g) (file : List ℕ)
       (λ not. absurd (omega (arith, more, few, (c.range_of-first.ensures.unknown not).1)))
       (passes_or_not c.is_told-is_known.result)
 
-pub sums_of-requires-clause-accepted : goal.sums_of-requires-clause-accepted
-sums_of-requires-clause-accepted g c =
-    accepted g (goal.at.sums_of-requires-clause-accepted g c).After-range_of-first
+pub add_plays-requires-clause-accepted : goal.add_plays-requires-clause-accepted
+add_plays-requires-clause-accepted g c =
+    accepted g (goal.at.add_plays-requires-clause-accepted g c).After-range_of-first
 
-pub sums_of-requires-clause-before : goal.sums_of-requires-clause-before
-sums_of-requires-clause-before g c =
-    none-before g (goal.at.sums_of-requires-clause-before g c).After-range_of-first
+pub add_plays-requires-clause-before : goal.add_plays-requires-clause-before
+add_plays-requires-clause-before g c =
+    none-before g (goal.at.add_plays-requires-clause-before g c).After-range_of-first
 
-pub sums_of-requires-clause-beyond : goal.sums_of-requires-clause-beyond
-sums_of-requires-clause-beyond g c =
-    none-beyond g (goal.at.sums_of-requires-clause-beyond g c).After-range_of-first
+pub add_plays-requires-clause-beyond : goal.add_plays-requires-clause-beyond
+add_plays-requires-clause-beyond g c =
+    none-beyond g (goal.at.add_plays-requires-clause-beyond g c).After-range_of-first
 
-pub returns-in-Some-clause-totals : goal.returns-in-Some-clause-totals
-returns-in-Some-clause-totals g c file told =
-    let here = (goal.at.returns-in-Some-clause-totals g c).After-range_of-first in
+pub returns-clause-totals : goal.returns-clause-totals
+returns-clause-totals g c file told =
+    let here = (goal.at.returns-clause-totals g c).After-range_of-first in
     let now = (c.in_ok-load_plays.ensures {u = tt}).stays.told ∙ told in
-    sums-are file c.args.position.now c.args.recorded.now c.in-Some.sums
+    sums-are file c.args.position.now c.args.recorded.now c.add_plays.new.sums
     (unfinished g here file now) (c.requires.recorded file told)
-    ((c.in-Some.ensures {u = tt}).sums file now)
+    (c.add_plays.ensures.sums file now (search rules))

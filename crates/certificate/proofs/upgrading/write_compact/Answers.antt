@@ -1,10 +1,6 @@
 use Rattle.std.proofs.Common.{◌≡◌, ℕ, ◌*◌, ◌<◌, ◌≤◌, List, sum, sym, ap, subst, ◌∙◌, arith}
 use Rattle.std.proofs.lemmas.Bool.{false≢true}
-use Rattle.race_model.specs.Positions.{Board, pips}
-use Rattle.race_model.specs.Ranks.{at_rank, count_to}
-use Rattle.race_model.specs.Versions.{version_by}
-use Rattle.race_model.specs.Files.{bound_of, mean_of}
-use Rattle.race_model.specs.LocalEquations.{whole}
+use Rattle.race_model.specs.Prelude.{Board, pips, at_rank, count_to, version_by, bound_of, mean_of, whole}
 use Rattle.race_model.proofs.FirstFaults.Questions.{within_bound}
 use Rattle.race_model.proofs.Ranks.PositionTotals.{count_to-most}
 use Rattle.db_layout.specs.Records.{IsHeld}

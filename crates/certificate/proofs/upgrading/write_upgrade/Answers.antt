@@ -1,8 +1,6 @@
 use Rattle.std.proofs.Common.{◌≡◌, ℕ, List, refl, sym, ap, subst, ◌∙◌, arith}
 use Rattle.std.specs.Io.KnownBytes.{Appends}
-use Rattle.race_model.specs.Ranks.{count_to}
-use Rattle.race_model.specs.Versions.{compact, version_by}
-use Rattle.race_model.specs.Files.{header, bound_of}
+use Rattle.race_model.specs.Prelude.{count_to, compact, version_by, header, bound_of}
 use Rattle.db_layout.specs.Writes.{AppendsPart}
 use Rattle.db_layout.proofs.Known.{one-error}
 use Rattle.db_layout.proofs.Prefixes.{header-first, header-part, more-part, more-written}

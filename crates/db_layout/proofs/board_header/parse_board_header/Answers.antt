@@ -1,6 +1,6 @@
 -- Bytes of which each question is answered yes are a board file.
 use Rattle.std.proofs.Common.{◌∙◌, arith}
-use Rattle.race_model.specs.Headers.{bound}
+use Rattle.race_model.specs.Prelude.{bound}
 use Rattle.race_model.proofs.FirstFaults.HeaderFacts.{board_of_header}
 use Rattle.db_layout.proofs.board_header.parse_board_header.Goals as goal
 

@@ -1,9 +1,7 @@
 -- The sum of the counts of one throw fewer has room.
-use Rattle.std.proofs.Common.{◌≡◌, ℕ, suc, ◌+◌, ◌-◌, ◌*◌, ◌^◌, ◌<◌, ◌≤◌, ap, sym, subst, arith, ◌∙◌}
+use Rattle.std.proofs.Common.{◌≡◌, ℕ, suc, ◌+◌, ◌-◌, ◌*◌, ◌^◌, ◌<◌, ◌≤◌, ap, sym, subst, arith, ◌∙◌, slice_index}
 use Rattle.std.proofs.Math.Nat.{pow-le-pow_right}
-use Rattle.std.specs.Prelude.{slice_index}
-use Rattle.race_model.specs.Dice.{roll_index, weighted}
-use Rattle.race_model.specs.BoardFiles.{count_at}
+use Rattle.race_model.specs.Prelude.{roll_index, weighted, count_at}
 use Rattle.db_layout.proofs.KnownRecords.{of_some}
 use Rattle.db_layout.proofs.BoardSums.{counts-most}
 use Rattle.race_model.proofs.Dice.RollSums.{roll_index-range}
@@ -42,7 +40,7 @@ module _ (c : After-from-word) where
       alone : (n : ℕ) → 0 + n ≡ n
       alone n = omega arith
 
-  -- .. and to 22 it has two
+  -- to 22 throws it has two words
   middle : 11 < c.args.k → c.args.k ≤ 22 →
       slice_index c.args.words.now (2 * c.from-word.result - 12) * 36 ^ 11
       + slice_index c.args.words.now (2 * c.from-word.result - 11)

@@ -1,12 +1,8 @@
 -- What a record tells is written, and at most all sequences.
-use Rattle.std.proofs.Common.{◌≡◌, ℕ, ◌+◌, ◌*◌, ◌^◌, ◌<◌, ◌≤◌, List, ap, ap₂, subst, sym, ◌∙◌, arith}
-use Rattle.std.specs.Prelude.{IsSome}
+use Rattle.std.proofs.Common.{◌≡◌, ℕ, ◌+◌, ◌*◌, ◌^◌, ◌<◌, ◌≤◌, List, ap, ap₂, subst, sym, ◌∙◌, arith, IsSome}
 use Rattle.std.specs.Int.{w64, w128, from_be_bytes}
-use Rattle.race_model.specs.Positions.{pips}
-use Rattle.race_model.specs.Ranks.{at_rank}
-use Rattle.race_model.specs.Files.{bytes_at}
-use Rattle.race_model.specs.Horizon.{most_rolls}
-use Rattle.race_model.specs.BoardFiles.{Parts, board_record, count_at, count_parts, value_of_parts}
+use Rattle.race_model.specs.Prelude.{pips, at_rank, bytes_at, most_rolls, Parts, board_record, count_at, count_parts}
+use Rattle.race_model.specs.Prelude.{value_of_parts}
 use Rattle.race_model.proofs.RightFiles.CountParts.{count-long}
 use Rattle.db_layout.proofs.KnownRecords.{count-most, count-written, of_some, told-beyond, told-within}
 use Rattle.db_layout.proofs.board_numbers.long.Goals.{After-new}

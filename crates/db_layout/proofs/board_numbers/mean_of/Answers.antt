@@ -1,6 +1,5 @@
 -- There is such a mean.
-use Rattle.std.proofs.Common.{◌≡◌, ◌+◌, ◌*◌, ◌^◌, ap, sym, ◌∙◌}
-use Rattle.std.specs.Prelude.{slice_index}
+use Rattle.std.proofs.Common.{◌≡◌, ◌+◌, ◌*◌, ◌^◌, ap, sym, ◌∙◌, slice_index}
 use Rattle.db_layout.proofs.KnownRecords.{of_some}
 use Rattle.db_layout.proofs.BoardSums.{mean-exists}
 use Rattle.db_layout.proofs.board_numbers.mean_of.Goals as goal

@@ -1,9 +1,7 @@
 -- The count of one play more, and the sum of all.
-use Rattle.std.proofs.Common.{◌≡◌, ap, length-set, refl, ◌∙◌, arith}
-use Rattle.std.specs.Prelude.{slice_index}
-use Rattle.race_model.specs.BoardFiles.{count_at}
+use Rattle.std.proofs.Common.{◌≡◌, length-set, refl, ◌∙◌, arith, slice_index}
+use Rattle.race_model.specs.Prelude.{count_at}
 use Rattle.race_model.proofs.Numbers.Members.{set_next}
-use Rattle.db_layout.specs.LowerRecords.{Lower}
 use Rattle.db_layout.proofs.Weighted.{weighted-listed}
 use Rattle.db_layout.proofs.board_numbers.sum_of_long.Goals as goal
 
@@ -11,7 +9,6 @@ pub loop-index-preserved : goal.loop-index-preserved
 loop-index-preserved c =
     let i = c.loop-index.index in
     let kept = c.loop-index.invariant in
-    let rank = slice_index c.args.plays.now i in
     record {
       len = length-set c.loop-index.counts i c.long.result ∙ kept.len;
       are =
@@ -20,8 +17,7 @@ loop-index-preserved c =
           ≡ count_at c.args.lower.now.bytes (slice_index c.args.plays.now j) c.args.k)
           c.loop-index.counts i i c.long.result 0 refl
           (omega (arith, kept.len, c.loop-index-test.true)) kept.are
-          (c.long.ensures
-          ∙ ap (λ (l : Lower). count_at l.bytes rank c.args.k) c.again-records.ensures);
+          c.long.ensures;
     }
 
 pub returns : goal.returns

@@ -1,6 +1,5 @@
-use Rattle.std.proofs.Common.{◌≡◌, ℕ, ◌<◌, length}
-use Rattle.std.specs.Prelude.{slice_index}
-use Rattle.race_model.specs.BoardFiles.{count_at}
+use Rattle.std.proofs.Common.{◌≡◌, ℕ, ◌<◌, length, slice_index}
+use Rattle.race_model.specs.Prelude.{count_at}
 use Rattle.db_layout.proofs.board_numbers.sum_of_long.Given as goal
 
 -- the counts of the plays so far

@@ -1,7 +1,6 @@
 -- The mean of one play more, and the sum of all.
-use Rattle.std.proofs.Common.{◌*◌, ap, arith}
-use Rattle.std.specs.Prelude.{slice_index}
-use Rattle.race_model.specs.Dice.{roll_index, weight}
+use Rattle.std.proofs.Common.{◌*◌, ap, arith, slice_index}
+use Rattle.race_model.specs.Prelude.{roll_index, weight}
 use Rattle.fixed_fraction.specs.Board.{WeightedSum}
 use Rattle.fixed_fraction.proofs.RollSums.{roll-more, roll-next, rolls-done}
 use Rattle.fixed_fraction.proofs.RollSums.{weights-by_index, weights-within}

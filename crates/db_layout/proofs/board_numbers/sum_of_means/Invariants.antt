@@ -1,6 +1,5 @@
-use Rattle.std.proofs.Common.{◌≡◌, ◌*◌, sum_by, take}
-use Rattle.std.specs.Prelude.{slice_index}
-use Rattle.race_model.specs.Dice.{all_rolls, roll_index, weight}
+use Rattle.std.proofs.Common.{◌≡◌, ◌*◌, sum_by, take, slice_index}
+use Rattle.race_model.specs.Prelude.{all_rolls, roll_index, weight}
 use Rattle.db_layout.specs.LowerRecords.{board_mean}
 use Rattle.db_layout.proofs.board_numbers.sum_of_means.Given as goal
 

@@ -2,7 +2,7 @@
 use mir.Val.{bool_byte}
 use Rattle.std.proofs.Common.{◌≡◌, ⊎_elim, ℕ, zero, suc, ◌+◌, ◌*◌, ◌/◌, ◌<◌, ◌≤◌, List, length, refl, ap}
 use Rattle.std.proofs.Common.{get_or-set_same, get_or-set_other, Bool, true, false, cond, length-set, ◌∙◌, arith}
-use Rattle.std.specs.Prelude.{slice_index}
+use Rattle.std.proofs.Common.{slice_index}
 use Rattle.std.proofs.lemmas.Bool.{cases_lt}
 use Rattle.db_layout.specs.BoardWords.{word_of}
 use Rattle.db_layout.proofs.WordSums.{word_of-beyond}

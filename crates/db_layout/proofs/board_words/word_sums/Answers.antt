@@ -1,8 +1,8 @@
 -- The words of one group of plays more, and of one play more.
 use Rattle.std.proofs.Common.{◌≡◌, ℕ, zero, suc, ◌+◌, ◌*◌, ◌<◌, List, [], ◌∷◌, sum_by, take, refl, sym, ap, ◌∙◌, arith}
-use Rattle.std.specs.Prelude.{slice_index, slice_index_or}
+use Rattle.std.proofs.Common.{slice_index, slice_index_or}
 use Rattle.std.proofs.lemmas.List.Sums.{sum_by_more}
-use Rattle.race_model.specs.Dice.{roll_index, weighted}
+use Rattle.race_model.specs.Prelude.{roll_index, weighted}
 use Rattle.race_model.proofs.Plays.MostPlays.{get_or-zeros}
 use Rattle.fixed_fraction.proofs.RollSums.{weighted-by_index}
 use Rattle.db_layout.specs.BoardWords.{six, word_at, word_of}

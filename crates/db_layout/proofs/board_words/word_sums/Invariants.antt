@@ -1,5 +1,4 @@
-use Rattle.std.proofs.Common.{◌≡◌, ℕ, ◌+◌, ◌*◌, ◌^◌, ◌<◌, ◌≤◌, length, sum_by, take, ◌∷◌, []}
-use Rattle.std.specs.Prelude.{slice_index}
+use Rattle.std.proofs.Common.{◌≡◌, ℕ, ◌+◌, ◌*◌, ◌^◌, ◌<◌, ◌≤◌, length, sum_by, take, ◌∷◌, [], slice_index}
 use Rattle.db_layout.specs.BoardWords.{six, word_at}
 use Rattle.db_layout.proofs.WordSums.{groups}
 use Rattle.db_layout.proofs.board_words.word_sums.Given as goal
@@ -15,7 +14,7 @@ invariant-loop-group l = record {
   bound : (i : ℕ) → i < 34 → slice_index l.sums i ≤ l.group * 11 * 36 ^ 11;
 }
 
--- .. and then over the other doubles
+-- the sums over the other doubles so far, and how large they are
 abbrev pub invariant-loop-index : goal.invariant-loop-index
 invariant-loop-index l = record {
   len : length l.sums ≡ 34;

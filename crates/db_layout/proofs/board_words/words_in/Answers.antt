@@ -1,10 +1,7 @@
 -- The words of the record.
 use Rattle.std.proofs.Common.{◌≡◌, ℕ, ◌-◌, ◌<◌, take, drop, ap, ap₂, ◌∙◌, arith, List}
 use Rattle.std.proofs.lemmas.Simd.{length-chunk}
-use Rattle.race_model.specs.Positions.{pips}
-use Rattle.race_model.specs.Ranks.{at_rank}
-use Rattle.race_model.specs.Files.{bytes_at}
-use Rattle.race_model.specs.BoardFiles.{board_length}
+use Rattle.race_model.specs.Prelude.{pips, at_rank, bytes_at, board_length}
 use Rattle.db_layout.specs.BoardWords.{word_at, word_of}
 use Rattle.db_layout.proofs.WordSums.{word-small, word_of-record, words_length}
 use Rattle.db_layout.proofs.board_words.words_in.Goals as goal

@@ -1,7 +1,6 @@
 use Rattle.std.proofs.Common.{◌≡◌, ℕ, ◌+◌, drop, ap, sym, subst, ◌∙◌, arith}
 use Rattle.std.specs.Int.{w64, w128, from_be_bytes}
-use Rattle.race_model.specs.Files.{bytes_at}
-use Rattle.race_model.specs.BoardFiles.{count_place}
+use Rattle.race_model.specs.Prelude.{bytes_at, count_place}
 use Rattle.race_model.proofs.RightFiles.CountParts.{same_parts, count-short, count-middle, count-long}
 use Rattle.db_layout.specs.BoardRecords.{KeepsBefore}
 use Rattle.db_layout.proofs.ByteParts.{bytes_at-agree}

@@ -1,6 +1,6 @@
 use Rattle.std.proofs.Common.{ap, ◌∙◌, arith}
 use Rattle.std.specs.Int.{w128, from_be_bytes}
-use Rattle.race_model.specs.BoardFiles.{mean_parts}
+use Rattle.race_model.specs.Prelude.{mean_parts}
 use Rattle.race_model.proofs.RightFiles.CountParts.{same_parts}
 use Rattle.db_layout.proofs.ByteParts.{bytes_at-agree}
 use Rattle.db_layout.proofs.SameFronts.{rest_stays}

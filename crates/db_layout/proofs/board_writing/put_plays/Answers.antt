@@ -1,7 +1,6 @@
-use Rattle.std.proofs.Common.{◌≡◌, ⊎_elim, ◌+◌, ◌*◌, subst, ◌∙◌, arith}
-use Rattle.std.specs.Prelude.{slice_index}
+use Rattle.std.proofs.Common.{◌≡◌, ⊎_elim, ◌+◌, ◌*◌, subst, ◌∙◌, arith, slice_index}
 use Rattle.std.proofs.lemmas.Bool.{cases_lt}
-use Rattle.race_model.specs.BoardFiles.{board_play_of}
+use Rattle.race_model.specs.Prelude.{board_play_of}
 use Rattle.db_layout.proofs.SameFronts.{keeps_twice, play-agree, rest-agree}
 use Rattle.db_layout.proofs.board_writing.put_plays.Goals as goal
 

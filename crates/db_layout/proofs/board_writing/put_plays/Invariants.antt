@@ -1,6 +1,5 @@
-use Rattle.std.proofs.Common.{◌≡◌, ℕ, ◌<◌, drop}
-use Rattle.std.specs.Prelude.{slice_index}
-use Rattle.race_model.specs.BoardFiles.{board_play_of}
+use Rattle.std.proofs.Common.{◌≡◌, ℕ, ◌<◌, drop, slice_index}
+use Rattle.race_model.specs.Prelude.{board_play_of}
 use Rattle.db_layout.specs.BoardRecords.{KeepsBefore}
 use Rattle.db_layout.proofs.board_writing.put_plays.Given as goal
 

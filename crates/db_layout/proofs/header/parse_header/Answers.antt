@@ -1,8 +1,6 @@
 -- What a header states that is read is what a database of its version and its bound states.
 use Rattle.std.proofs.Common.{ap, sym, subst, ◌∙◌}
-use Rattle.race_model.specs.Versions.{version_by}
-use Rattle.race_model.specs.Files.{version_of}
-use Rattle.race_model.specs.Headers.{version, bound}
+use Rattle.race_model.specs.Prelude.{version_by, version_of, version, bound}
 use Rattle.db_layout.specs.Records.{IsVersion}
 use Rattle.db_layout.proofs.header.parse_header.Goals as goal
 

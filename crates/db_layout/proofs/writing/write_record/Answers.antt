@@ -1,5 +1,5 @@
 use Rattle.std.proofs.Common.{le_trans}
-use Rattle.race_model.specs.Versions.{version_by}
+use Rattle.race_model.specs.Prelude.{version_by}
 use Rattle.db_layout.proofs.Bounds.{bound-most}
 use Rattle.db_layout.proofs.writing.write_record.Goals as goal
 

@@ -1,7 +1,5 @@
-use Rattle.std.specs.Prelude.{slice_index}
-use Rattle.std.proofs.Common.{◌<◌, ℕ, length, take, ap, subst, ◌∙◌, arith}
-use Rattle.race_model.specs.Headers.{IsHeader, IsFirstHeaderFault}
-use Rattle.race_model.specs.Files.{version_of, bound_of}
+use Rattle.std.proofs.Common.{slice_index, ◌<◌, ℕ, length, take, ap, subst, ◌∙◌, arith}
+use Rattle.race_model.specs.Prelude.{IsHeader, IsFirstHeaderFault, version_of, bound_of}
 use Rattle.race_model.proofs.FirstFaults.HeaderFacts.{file_of_header, bound_of-front, version_of-front}
 use Rattle.db_layout.specs.HeaderFaults.{test_of}
 use Rattle.db_reader.proofs.front.header_of.Goals as goal

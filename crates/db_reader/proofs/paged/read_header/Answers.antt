@@ -1,5 +1,4 @@
-use Rattle.std.proofs.Common.{◌≡◌, ℕ, min, take, length, length-take, sym, ap, ◌∙◌, arith}
-use Rattle.std.specs.Prelude.{replicate}
+use Rattle.std.proofs.Common.{◌≡◌, ℕ, min, take, length, length-take, sym, ap, ◌∙◌, arith, replicate}
 use Rattle.db_reader.proofs.Fronts.{take-within}
 use Rattle.db_reader.proofs.Pages.{succeeded}
 use Rattle.db_reader.proofs.paged.read_header.Goals as goal

@@ -11,7 +11,7 @@ product c =
     ap (λ p. p * 2 ^ c.args.terms.twos % 2 ^ 128) c.power_of_three.ensures
     ∙ no_bit_lost c.args.terms.threes c.args.terms.twos c.requires.threes c.requires.twos
 
--- .. so the ratio is small
+-- the ratio is small, since the denominator is the product
 small : (c : After-power_of_three) → IsSmallRatio (record {
   numerator = c.args.terms.numerator;
   denominator = c.power_of_three.result * 2 ^ c.args.terms.twos % 2 ^ 128;

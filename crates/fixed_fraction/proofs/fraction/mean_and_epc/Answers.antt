@@ -1,6 +1,5 @@
 use Rattle.std.proofs.Common.{◌*◌, ◌^◌, ◌<◌, subst, arith}
-use Rattle.race_model.specs.LocalEquations.{whole}
-use Rattle.race_model.specs.Fractions.{IsFraction}
+use Rattle.race_model.specs.Prelude.{whole, IsFraction}
 use Rattle.fixed_fraction.specs.Ratios.{IsDivided}
 use Rattle.fixed_fraction.proofs.Fractions.{some_whole, some_six, within_divided, fraction_is}
 use Rattle.fixed_fraction.proofs.Fractions.{mean_within, epc_within, numerator_fits, scaled_divided}

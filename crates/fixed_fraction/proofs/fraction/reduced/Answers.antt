@@ -1,4 +1,4 @@
-use Rattle.race_model.specs.LocalEquations.{whole}
+use Rattle.race_model.specs.Prelude.{whole}
 use Rattle.fixed_fraction.proofs.Fractions.{some_whole, within_divided, fraction_is}
 use Rattle.fixed_fraction.proofs.fraction.reduced.Goals as goal
 

@@ -1,5 +1,4 @@
-use Rattle.std.specs.Prelude.{IsTrue, ◌↔◌}
-use Rattle.std.proofs.Common.{◌+◌, ◌*◌, ◌<◌, ◌≤◌, ap, ◌∙◌, subst, arith}
+use Rattle.std.proofs.Common.{IsTrue, ◌↔◌, ◌+◌, ◌*◌, ◌<◌, ◌≤◌, ap, ◌∙◌, subst, arith}
 use Rattle.fixed_fraction.specs.Board.{part}
 use Rattle.fixed_fraction.proofs.TwoParts.{power_in_parts}
 use Rattle.fixed_fraction.proofs.parts.are_count_parts.Goals as goal

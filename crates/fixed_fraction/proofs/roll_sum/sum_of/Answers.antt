@@ -1,6 +1,6 @@
 use Rattle.std.proofs.Common.{◌*◌, ◌<◌, length, map, get_or, sym, ap, ◌∙◌, arith}
 use Rattle.std.proofs.lemmas.List.{get_or-map}
-use Rattle.race_model.specs.Dice.{roll_index, weight}
+use Rattle.race_model.specs.Prelude.{roll_index, weight}
 use Rattle.race_model.proofs.Dice.RollSums.{sum_by-weight}
 use Rattle.fixed_fraction.specs.Board.{WeightedSum}
 use Rattle.fixed_fraction.proofs.RollSums.{roll-more, roll-next, rolls-done}

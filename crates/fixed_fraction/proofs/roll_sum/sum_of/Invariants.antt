@@ -1,6 +1,5 @@
-use Rattle.std.proofs.Common.{◌≡◌, ◌*◌, map, sum_by, take}
-use Rattle.std.specs.Prelude.{slice_index}
-use Rattle.race_model.specs.Dice.{all_rolls, roll_index, weight}
+use Rattle.std.proofs.Common.{◌≡◌, ◌*◌, map, sum_by, take, slice_index}
+use Rattle.race_model.specs.Prelude.{all_rolls, roll_index, weight}
 use Rattle.fixed_fraction.proofs.roll_sum.sum_of.Given as goal
 
 -- the sum over the rolls so far, and their weights

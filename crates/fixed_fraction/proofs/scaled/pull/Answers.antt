@@ -1,7 +1,7 @@
 use Rattle.std.proofs.Common.{◌+◌, ◌*◌, ◌^◌, ◌<◌, ◌≤◌, ◌/◌, length, sum_by, take, arith}
 use Rattle.std.proofs.lemmas.List.{take_all}
 use Rattle.std.proofs.lemmas.List.Sums.{sum_by_more}
-use Rattle.race_model.specs.LocalEquations.{whole}
+use Rattle.race_model.specs.Prelude.{whole}
 use Rattle.fixed_fraction.proofs.Shares.{next_small, sum_fits, whole_is}
 use Rattle.fixed_fraction.proofs.scaled.pull.Goals as goal
 
@@ -20,7 +20,7 @@ bounded c =
     c.loop-weight.total c.numerator.result (22 * whole) (36 * whole)
     c.numerator.ensures.range c.loop-weight.invariant.small)
 
--- .. so it fits 128 bits
+-- the sum with the next part fits 128 bits
 fits : (c : goal.After-numerator) →
     c.loop-weight.total + c.from.result * c.numerator.result < 2 ^ 128
 fits c =

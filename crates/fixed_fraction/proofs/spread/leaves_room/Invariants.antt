@@ -1,5 +1,5 @@
 use Rattle.std.proofs.Common.{◌≡◌, take, length, get_or, sum, All}
-use Rattle.race_model.specs.LocalEquations.{whole}
+use Rattle.race_model.specs.Prelude.{whole}
 use Rattle.fixed_fraction.proofs.spread.leaves_room.Given as goal
 
 -- the parts so far have no share at 22 rolls

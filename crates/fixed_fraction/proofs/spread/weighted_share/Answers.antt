@@ -1,6 +1,6 @@
 use Rattle.std.proofs.Common.{◌+◌, ◌*◌, ◌^◌, ◌<◌, ◌≤◌, length, sum_by, take, get_or, arith}
 use Rattle.std.proofs.lemmas.List.Sums.{sum_by_more}
-use Rattle.race_model.specs.LocalEquations.{whole}
+use Rattle.race_model.specs.Prelude.{whole}
 use Rattle.fixed_fraction.proofs.Shares.{next_small, sum_fits, share_at_most_sum}
 use Rattle.fixed_fraction.proofs.spread.weighted_share.Goals as goal
 
@@ -21,7 +21,7 @@ bounded c =
     (omega (arith, one, c.at.ensures.value, c.at.ensures.total))
     (omega (arith, c.loop-weight.invariant.small)))
 
--- .. so it fits 128 bits
+-- the sum with the next part fits 128 bits
 fits : (c : goal.After-at) → c.loop-weight.total + c.from.result * c.at.result < 2 ^ 128
 fits c =
     sum_fits c.args.parts.now c.loop-weight.weight-index c.loop-weight-item.result (omega arith) _

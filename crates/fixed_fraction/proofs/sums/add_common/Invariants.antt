@@ -1,6 +1,5 @@
-use Rattle.std.proofs.Common.{◌≡◌, ℕ, ◌+◌, ◌*◌, ◌<◌, ◌≤◌, length, map}
-use Rattle.std.specs.Prelude.{slice_index}
-use Rattle.race_model.specs.LocalEquations.{whole}
+use Rattle.std.proofs.Common.{◌≡◌, ℕ, ◌+◌, ◌*◌, ◌<◌, ◌≤◌, length, map, slice_index}
+use Rattle.race_model.specs.Prelude.{whole}
 use Rattle.fixed_fraction.specs.Totals.{sum_at}
 use Rattle.fixed_fraction.proofs.sums.add_common.Given as goal
 

@@ -1,9 +1,9 @@
 -- By the loop over the plays, each of which adds its shares.
-use Rattle.std.proofs.Common.{◌≡◌, ℕ, ◌+◌, ◌<◌, ◌≤◌, List, [], map, get_or, sym, ap, ◌∙◌, arith}
-use Rattle.std.specs.Prelude.{slice_index, slice_index_or}
+use Rattle.std.proofs.Common.{◌≡◌, ℕ, ◌+◌, ◌<◌, ◌≤◌, List, [], map, get_or, sym, ap, ◌∙◌, arith, slice_index}
+use Rattle.std.proofs.Common.{slice_index_or}
 use Rattle.std.proofs.lemmas.List.{get_or-map, take_all}
 use Rattle.std.proofs.lemmas.List.Elements.{All-get_or}
-use Rattle.race_model.specs.LocalEquations.{whole}
+use Rattle.race_model.specs.Prelude.{whole}
 use Rattle.fixed_fraction.specs.Totals.{sum_at}
 use Rattle.fixed_fraction.proofs.Shares.{share_at_most_sum}
 use Rattle.fixed_fraction.proofs.RollSums.{sum_at-more}
@@ -39,7 +39,7 @@ module _ (g : Over) (c : After-index-spreads-from g) where
   at : (k : ℕ) → get_or shares k 0 ≡ get_or (get_or spreads c.from.result []) k 0
   at k = ap (λ (xs : List ℕ). get_or xs k 0) shares_are
 
-  -- .. are no more than the whole
+  -- its shares are no more than the whole
   most : (k : ℕ) → get_or shares k 0 ≤ whole
   most k =
       omega (

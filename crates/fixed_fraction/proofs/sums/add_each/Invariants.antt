@@ -1,6 +1,5 @@
-use Rattle.std.proofs.Common.{◌≡◌, ℕ, ◌+◌, ◌*◌, ◌<◌, ◌≤◌, length, map, take}
-use Rattle.std.specs.Prelude.{slice_index}
-use Rattle.race_model.specs.LocalEquations.{whole}
+use Rattle.std.proofs.Common.{◌≡◌, ℕ, ◌+◌, ◌*◌, ◌<◌, ◌≤◌, length, map, take, slice_index}
+use Rattle.race_model.specs.Prelude.{whole}
 use Rattle.fixed_fraction.specs.Totals.{sum_at}
 use Rattle.fixed_fraction.proofs.sums.add_each.Given as goal
 

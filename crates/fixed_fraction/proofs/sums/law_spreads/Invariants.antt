@@ -1,6 +1,5 @@
-use Rattle.std.proofs.Common.{◌≡◌, ℕ, ◌<◌, [], length, map, sum}
-use Rattle.std.specs.Prelude.{slice_index_or}
-use Rattle.race_model.specs.LocalEquations.{whole}
+use Rattle.std.proofs.Common.{◌≡◌, ℕ, ◌<◌, [], length, map, sum, slice_index_or}
+use Rattle.race_model.specs.Prelude.{whole}
 use Rattle.fixed_fraction.proofs.sums.law_spreads.Given as goal
 
 -- the spreads so far

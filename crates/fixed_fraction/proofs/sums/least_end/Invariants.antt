@@ -1,5 +1,4 @@
-use Rattle.std.proofs.Common.{ℕ, ◌<◌, ◌≤◌, map}
-use Rattle.std.specs.Prelude.{slice_index}
+use Rattle.std.proofs.Common.{ℕ, ◌<◌, ◌≤◌, map, slice_index}
 use Rattle.fixed_fraction.proofs.sums.least_end.Given as goal
 
 -- the least of the first plays

@@ -1,7 +1,6 @@
 use Rattle.std.proofs.Common.{◌≡◌, ◌+◌, ◌*◌, ◌≤◌, get_or, sum_by, take, ◌∙◌, arith}
 use Rattle.std.proofs.lemmas.Grind.{get_or_default_zero}
-use Rattle.race_model.specs.Dice.{all_rolls, roll_index, weight}
-use Rattle.race_model.specs.LocalEquations.{whole}
+use Rattle.race_model.specs.Prelude.{all_rolls, roll_index, weight, whole}
 use Rattle.fixed_fraction.proofs.RollSums.{roll-added, roll-bound, rolls-fit, rolls-done, rolls-bound}
 use Rattle.fixed_fraction.proofs.RollSums.{weights-by_index}
 use Rattle.fixed_fraction.proofs.sums.sum_of_means.Goals as goal

@@ -1,7 +1,5 @@
-use Rattle.std.proofs.Common.{◌≡◌, ◌*◌, ◌≤◌, sum_by, take}
-use Rattle.std.specs.Prelude.{slice_index}
-use Rattle.race_model.specs.Dice.{all_rolls, roll_index, weight}
-use Rattle.race_model.specs.LocalEquations.{whole}
+use Rattle.std.proofs.Common.{◌≡◌, ◌*◌, ◌≤◌, sum_by, take, slice_index}
+use Rattle.race_model.specs.Prelude.{all_rolls, roll_index, weight, whole}
 use Rattle.fixed_fraction.proofs.sums.sum_of_means.Given as goal
 
 -- the sum over the rolls so far, and how large it may be

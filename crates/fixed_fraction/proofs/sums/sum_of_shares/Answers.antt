@@ -4,7 +4,7 @@ use Rattle.std.specs.Int.{w128}
 use Rattle.std.proofs.Math.Facts.{Fits-of_lt}
 use Rattle.std.proofs.lemmas.List.{get_or-map}
 use Rattle.std.proofs.lemmas.List.Elements.{All-get_or}
-use Rattle.race_model.specs.LocalEquations.{whole}
+use Rattle.race_model.specs.Prelude.{whole}
 use Rattle.fixed_fraction.proofs.Shares.{share_at_most_sum}
 use Rattle.fixed_fraction.proofs.RollSums.{sum_at-more}
 use Rattle.fixed_fraction.proofs.sums.sum_of_shares.Given.{Over}
@@ -35,7 +35,7 @@ module _ (g : Over) (c : After-share-total g) where
       c.index-spreads-from.result [] (omega (arith, c.told-spreads, inside)))
       ∙ ap (λ i. get_or spreads i []) c.from.ensures)
 
-  -- .. is no more than the whole
+  -- its share is no more than the whole
   most : c.share-total.result ≤ whole
   most =
       let i = get_or c.args.indices.now c.loop-place.place 0 in

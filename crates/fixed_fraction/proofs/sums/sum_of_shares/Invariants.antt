@@ -1,5 +1,5 @@
 use Rattle.std.proofs.Common.{◌≡◌, ◌*◌, ◌≤◌, map, take}
-use Rattle.race_model.specs.LocalEquations.{whole}
+use Rattle.race_model.specs.Prelude.{whole}
 use Rattle.fixed_fraction.specs.Totals.{sum_at}
 use Rattle.fixed_fraction.proofs.sums.sum_of_shares.Given as goal
 

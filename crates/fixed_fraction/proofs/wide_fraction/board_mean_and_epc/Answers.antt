@@ -1,6 +1,6 @@
 -- A mean whose lower part is 0 is over 36 ^ 22, and any is over 36 ^ 33.
 use Rattle.std.proofs.Common.{◌≡◌, ◌+◌, ◌*◌, ◌^◌, subst, arith}
-use Rattle.race_model.specs.LocalEquations.{whole}
+use Rattle.race_model.specs.Prelude.{whole}
 use Rattle.fixed_fraction.specs.Board.{board_whole}
 use Rattle.fixed_fraction.specs.Ratios.{IsDivided}
 use Rattle.fixed_fraction.proofs.Fractions.{fraction_is, over_board, scaled_divided, whole_of_board}
@@ -9,14 +9,14 @@ use Rattle.fixed_fraction.proofs.wide_fraction.board_mean_and_epc.Goals as goal
 pub returns-in-Some-clause-mean : goal.returns-in-Some-clause-mean
 returns-in-Some-clause-mean c =
     over_board c.in-Some.rolls whole c.args.mean board_whole _ _ _ _ c.in-Some.ensures.value
-    whole_of_board c.mean_and_epc.ensures.mean c.wide.ensures.numerator
-    c.wide.ensures.denominator
+    whole_of_board c.mean_and_epc.ensures.mean c.of.ensures.numerator
+    c.of.ensures.denominator
 
 pub returns-in-Some-clause-epc : goal.returns-in-Some-clause-epc
 returns-in-Some-clause-epc c =
     over_board (49 * c.in-Some.rolls) (6 * whole) (49 * c.args.mean) (6 * board_whole) _ _ _ _
     (omega (arith, c.in-Some.ensures.value)) (omega (arith, whole_of_board))
-    c.mean_and_epc.ensures.epc c.wide-in-Some.ensures.numerator c.wide-in-Some.ensures.denominator
+    c.mean_and_epc.ensures.epc c.of-in-Some.ensures.numerator c.of-in-Some.ensures.denominator
 
 pub returns-clause-mean : goal.returns-clause-mean
 returns-clause-mean c =

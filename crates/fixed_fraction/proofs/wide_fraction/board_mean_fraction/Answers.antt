@@ -1,6 +1,6 @@
 -- A mean whose lower part is 0 is over 36 ^ 22, and any is over 36 ^ 33.
 use Rattle.std.proofs.Common.{arith}
-use Rattle.race_model.specs.LocalEquations.{whole}
+use Rattle.race_model.specs.Prelude.{whole}
 use Rattle.fixed_fraction.specs.Board.{board_whole}
 use Rattle.fixed_fraction.proofs.Fractions.{fraction_is, over_board, whole_of_board}
 use Rattle.fixed_fraction.proofs.wide_fraction.board_mean_fraction.Goals as goal
@@ -8,7 +8,7 @@ use Rattle.fixed_fraction.proofs.wide_fraction.board_mean_fraction.Goals as goal
 pub returns-in-Some : goal.returns-in-Some
 returns-in-Some c =
     over_board c.in-Some.rolls whole c.args.rolls board_whole _ _ _ _ c.in-Some.ensures.value
-    whole_of_board c.mean.ensures.value c.wide.ensures.numerator c.wide.ensures.denominator
+    whole_of_board c.mean.ensures.value c.of.ensures.numerator c.of.ensures.denominator
 
 pub returns-in-None : goal.returns-in-None
 returns-in-None c =

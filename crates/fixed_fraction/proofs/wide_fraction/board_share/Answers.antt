@@ -9,6 +9,6 @@ pub returns : goal.returns
 returns c =
     let told = c.fraction_of.ensures in
     fraction_is _ board_whole _ _ _ _ (omega arith)
-    (divided_twice _ _ _ _ _ _ (share_divided c.args.count c.args.k c.requires.few)
+    (divided_twice _ _ _ _ _ _ (share_divided c.args.count c.args.k c.requires)
     (rw (c.number.ensures, c.from-factors.ensures) at c.lowest.ensures.divided))
     c.lowest.ensures.lowest told.numerator told.denominator

@@ -1,7 +1,5 @@
 use Rattle.std.proofs.Common.{◌≡◌, ℕ, ◌+◌, ◌*◌, ◌/◌, ◌%◌, ◌^◌, ◌<◌, ap, subst, sym, ◌∙◌, arith}
-use Rattle.race_model.specs.Positions.{IsFinished, pips}
-use Rattle.race_model.specs.Horizon.{most_rolls}
-use Rattle.race_model.specs.BoardFiles.{Parts, value_of_parts}
+use Rattle.race_model.specs.Prelude.{IsFinished, pips, most_rolls, Parts, value_of_parts}
 use Rattle.race_model.proofs.Positions.Points.{no_pips}
 use Rattle.db_layout.proofs.SameFronts.{mean-agree, play-agree}
 use Rattle.retrograde.specs.NextBoardRecord.{AreCountsBy}
@@ -82,6 +80,6 @@ returns-clause-says c =
           ∙ c.put_plays-2.ensures.plays i inside;
       counts =
           subst
-          (λ p. AreCountsBy c.args.lower.now.bytes p c.args.plays.now new)
+          (λ p. AreCountsBy c.args.lower.now.bytes (most_rolls p) c.args.plays.now new)
           c.pips.ensures.value c.put_counts.ensures.counts;
     }

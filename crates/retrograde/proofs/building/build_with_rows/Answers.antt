@@ -1,9 +1,7 @@
-use Rattle.std.proofs.Common.{◌≡◌, ℕ, ◌+◌, ◌-◌, ap, subst, ◌∙◌, arith}
-use Rattle.std.specs.Prelude.{List, length, slice_index}
+use Rattle.std.proofs.Common.{◌≡◌, ℕ, ◌+◌, ◌-◌, ap, subst, ◌∙◌, arith, List, length, slice_index}
 use Rattle.std.proofs.KnownBytes.{Appends-nil}
 use Rattle.std.specs.Io.KnownBytes.{Appends}
-use Rattle.race_model.specs.Ranks.{first_of, count_to}
-use Rattle.race_model.specs.Versions.{version_by}
+use Rattle.race_model.specs.Prelude.{first_of, count_to, version_by}
 use Rattle.race_model.proofs.Ranks.RankOrder.{first_of-zero, count_to-rises}
 use Rattle.db_layout.specs.WholeFiles.{records_from}
 use Rattle.db_layout.specs.Writes.{AppendsPart}
@@ -23,10 +21,10 @@ use Rattle.retrograde.proofs.building.build_with_rows.Goals as goal
 
 pub grow-requires-clause-kept : goal.grow-requires-clause-kept
 grow-requires-clause-kept g c =
-    let records = c.args.records.now in
+    let records = c.new-records.result in
     rw first_of-zero
     (kept-none records.means.items records.places.items records.shares.items
-    (ap (λ (xs : List ℕ). slice_index xs 0) c.requires.none))
+    (ap (λ (xs : List ℕ). slice_index xs 0) c.new-records.ensures))
 
 pub returns-in_err-grow : goal.returns-in_err-grow
 returns-in_err-grow g c =

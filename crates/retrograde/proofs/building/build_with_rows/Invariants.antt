@@ -1,5 +1,4 @@
-use Rattle.race_model.specs.Ranks.{first_of}
-use Rattle.race_model.specs.Versions.{version_by}
+use Rattle.race_model.specs.Prelude.{first_of, version_by}
 use Rattle.std.specs.Io.KnownBytes.{Appends}
 use Rattle.least_plays.specs.Known.{Knows}
 use Rattle.retrograde.specs.AllRecords.{AllRecords, mean_of_rank}

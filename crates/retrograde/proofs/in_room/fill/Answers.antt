@@ -1,12 +1,9 @@
-use Rattle.std.proofs.Common.{◌≡◌, ℕ, ◌+◌, ◌-◌, ◌≤◌, List, ◌++◌, length, take, drop, replicate}
-use Rattle.std.proofs.Common.{sym, ap, ◌∙◌, arith, refl, rules}
-use Rattle.std.specs.Prelude.{slice_index}
+use Rattle.std.proofs.Common.{◌≡◌, ℕ, ◌+◌, ◌-◌, ◌≤◌, List, ◌++◌, length, take, drop, replicate, sym, ap, ◌∙◌, arith}
+use Rattle.std.proofs.Common.{refl, rules, slice_index}
 use Rattle.std.proofs.lemmas.List.{length-take, length-drop, length-append, length-replicate}
 use Rattle.std.proofs.lemmas.List.{get_or-replicate}
 use Rattle.std.proofs.lemmas.Slice.{take-put_mid, drop-put_mid}
-use Rattle.race_model.specs.Ranks.{first_of, count_to}
-use Rattle.race_model.specs.Versions.{version_by}
-use Rattle.race_model.specs.Files.{record_place}
+use Rattle.race_model.specs.Prelude.{first_of, count_to, version_by, record_place}
 use Rattle.race_model.proofs.Ranks.RankOrder.{first_of-zero, count_to-rises}
 use Rattle.race_model.proofs.RightFiles.Places.{header_before}
 use Rattle.db_layout.proofs.Bounds.{bound-most}
@@ -79,7 +76,7 @@ module _ (g : Over) (c : After-level_place-start g) where
         count_to-rises c.loop-pips.pips c.args.header.now.bound low,
       )
 
-  -- .. and not before it begins
+  -- the level ends not before it begins
   ends : c.level_place-start.result.0 ≤ c.level_place-start.result.1
   ends =
       omega (
@@ -89,7 +86,7 @@ module _ (g : Over) (c : After-level_place-start g) where
         c.level_place-start.ensures.rise,
       )
 
-  -- .. and inside the room
+  -- the level ends inside the room
   inside : c.level_place-start.result.1 ≤ length c.loop-pips.room
   inside =
       let header = c.args.header.now in

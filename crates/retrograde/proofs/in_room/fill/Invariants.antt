@@ -1,8 +1,5 @@
-use Rattle.std.proofs.Common.{◌≡◌, ◌≤◌, length, take, drop}
-use Rattle.std.specs.Prelude.{slice_index}
-use Rattle.race_model.specs.Ranks.{first_of}
-use Rattle.race_model.specs.Versions.{version_by}
-use Rattle.race_model.specs.Files.{record_place}
+use Rattle.std.proofs.Common.{◌≡◌, ◌≤◌, length, take, drop, slice_index}
+use Rattle.race_model.specs.Prelude.{first_of, version_by, record_place}
 use Rattle.least_plays.specs.Known.{Knows}
 use Rattle.retrograde.specs.AllRecords.{AllRecords, mean_of_rank}
 use Rattle.retrograde.specs.BuiltBytes.{built_to}

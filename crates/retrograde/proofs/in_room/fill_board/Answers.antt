@@ -1,10 +1,7 @@
 use Rattle.std.proofs.Common.{◌≡◌, ℕ, ◌+◌, ◌<◌, ◌≤◌, List, length, take, ap, ap₂, rules}
 use Rattle.std.proofs.Common.{sym, subst, ◌∙◌, arith}
 use Rattle.std.proofs.lemmas.List.{length-take-le}
-use Rattle.race_model.specs.Positions.{Board, pips}
-use Rattle.race_model.specs.Ranks.{rank, at_rank}
-use Rattle.race_model.specs.Files.{bytes_at}
-use Rattle.race_model.specs.BoardFiles.{board_length, board_place, board_record}
+use Rattle.race_model.specs.Prelude.{Board, pips, rank, at_rank, bytes_at, board_length, board_place, board_record}
 use Rattle.race_model.proofs.Ranks.RankOrder.{at_rank_position, pips-range}
 use Rattle.race_model.proofs.Ranks.PositionTotals.{count_to-most, rank-at_rank}
 use Rattle.least_plays.proofs.Knowing.{knows_agree}

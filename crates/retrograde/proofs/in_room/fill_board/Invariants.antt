@@ -1,5 +1,5 @@
 use Rattle.std.proofs.Common.{◌≡◌, length, take, drop}
-use Rattle.race_model.specs.BoardFiles.{board_header, board_place}
+use Rattle.race_model.specs.Prelude.{board_header, board_place}
 use Rattle.least_plays.specs.Known.{Knows}
 use Rattle.db_layout.specs.LowerRecords.{AreRecords, board_mean}
 use Rattle.retrograde.specs.BuiltBoards.{IsBuiltTo}

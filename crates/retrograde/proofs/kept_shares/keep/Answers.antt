@@ -1,9 +1,8 @@
 -- The shares of the next rank stand at its place, and those before it stay.
-use Rattle.std.proofs.Common.{◌≡◌, ℕ, ◌+◌, ◌*◌, ◌<◌, List, ap, sym, ◌∙◌, arith}
-use Rattle.std.proofs.Common.{get_or-set_other, get_or-set_same}
-use Rattle.std.specs.Prelude.{slice_index, slice_set}
+use Rattle.std.proofs.Common.{◌≡◌, ℕ, ◌+◌, ◌*◌, ◌<◌, List, ap, sym, ◌∙◌, arith, get_or-set_other, get_or-set_same}
+use Rattle.std.proofs.Common.{slice_index, slice_set}
 use Rattle.std.specs.Int.{w128, from_le_bytes}
-use Rattle.race_model.specs.Files.{bytes_at}
+use Rattle.race_model.specs.Prelude.{bytes_at}
 use Rattle.retrograde.proofs.KeptShares.{kept-are, kept-agree}
 use Rattle.retrograde.proofs.kept_shares.keep.Goals.{After-put_shares}
 use Rattle.retrograde.proofs.kept_shares.keep.Goals as goal
@@ -19,7 +18,7 @@ module _ (c : After-put_shares) (next : ℕ) where
       get_or-set_other c.args.places.now (c.from-index.result + 1) r next 0
       (λ same. omega (arith, same, lt, c.from-index.ensures))
 
-  -- .. and the next one is there
+  -- the place of the next rank is there
   at_next : slice_index places (c.args.rank + 1) ≡ next
   at_next =
       ap (λ r. slice_index places (r + 1)) (sym c.from-index.ensures)

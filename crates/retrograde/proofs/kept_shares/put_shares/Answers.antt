@@ -1,9 +1,8 @@
 -- By the loop over the numbers of rolls.
-use Rattle.std.proofs.Common.{◌≡◌, ⊎_elim, ℕ, List, ◌+◌, ◌*◌, ap, sym, ◌∙◌, arith}
+use Rattle.std.proofs.Common.{◌≡◌, ⊎_elim, ℕ, List, ◌+◌, ◌*◌, ap, sym, ◌∙◌, arith, slice_index}
 use Rattle.std.specs.Int.{w128, from_le_bytes}
-use Rattle.std.specs.Prelude.{slice_index}
 use Rattle.std.proofs.lemmas.Bool.{cases_lt}
-use Rattle.race_model.specs.Files.{bytes_at}
+use Rattle.race_model.specs.Prelude.{bytes_at}
 use Rattle.db_layout.proofs.ByteParts.{bytes_at-agree, front-agree}
 use Rattle.retrograde.proofs.kept_shares.put_shares.Goals as goal
 

@@ -1,6 +1,6 @@
 use Rattle.std.proofs.Common.{◌≡◌, ℕ, ◌+◌, ◌*◌, ◌<◌, length, take, slice_index}
 use Rattle.std.specs.Int.{w128, from_le_bytes}
-use Rattle.race_model.specs.Files.{bytes_at}
+use Rattle.race_model.specs.Prelude.{bytes_at}
 use Rattle.retrograde.proofs.kept_shares.put_shares.Given as goal
 
 -- the first shares are written

@@ -1,12 +1,6 @@
 -- There is one built file of a bound, and within the bounds of both it plays as a built database.
 use Rattle.std.proofs.Common.{ℕ, ◌≤◌, ◌^◌, List, refl, sym, ◌∙◌, subst, subst₂}
-use Rattle.race_model.specs.Positions.{pips}
-use Rattle.race_model.specs.Versions.{Version}
-use Rattle.race_model.specs.Files.{book_of}
-use Rattle.race_model.specs.BoardFiles.{board_book}
-use Rattle.race_model.specs.BuiltFile.{IsBuilt}
-use Rattle.race_model.specs.Queries.{IsWithinAlike}
-use Rattle.race_model.specs.SameNumbers.{HasSamePlays}
+use Rattle.race_model.specs.Prelude.{pips, Version, book_of, board_book, IsBuilt, IsWithinAlike, HasSamePlays}
 use Rattle.race_model.proofs.Books.Kinds.{HasBestPlays, further_mean, same_best}
 use Rattle.race_model.proofs.Books.OneBook.{one_book}
 use Rattle.race_model.proofs.Replies.OneReply.{power_positive}

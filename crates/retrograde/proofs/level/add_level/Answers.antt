@@ -1,13 +1,10 @@
-use Rattle.std.proofs.Common.{◌≡◌, inl, inr, ⊎_elim, ℕ, suc, ◌+◌, ◌-◌, ◌*◌, ◌<◌, ◌≤◌, List, length, take}
-use Rattle.std.proofs.Common.{sym, ap, ◌∙◌, arith, rules, add-one, sum, refl, get_or-set_other, get_or-set_same}
-use Rattle.std.specs.Prelude.{slice_index, slice_set}
+use Rattle.std.proofs.Common.{◌≡◌, inl, inr, ⊎_elim, ℕ, suc, ◌+◌, ◌-◌, ◌*◌, ◌<◌, ◌≤◌, List, length, take, sym, ap, ◌∙◌}
+use Rattle.std.proofs.Common.{arith, rules, add-one, sum, refl, get_or-set_other, get_or-set_same, slice_index}
+use Rattle.std.proofs.Common.{slice_set}
 use Rattle.std.proofs.lemmas.Bool.{cases_lt}
 use Rattle.std.proofs.lemmas.List.{length-take, length-set, get_or-take, take_all}
-use Rattle.race_model.specs.Positions.{pips}
-use Rattle.race_model.specs.Ranks.{rank, at_rank, first_of, count_to}
-use Rattle.race_model.specs.Horizon.{most_rolls}
-use Rattle.race_model.specs.Versions.{Version, version_by}
-use Rattle.race_model.specs.Files.{record_place}
+use Rattle.race_model.specs.Prelude.{pips, rank, at_rank, first_of, count_to, most_rolls, Version, version_by}
+use Rattle.race_model.specs.Prelude.{record_place}
 use Rattle.race_model.proofs.Ranks.RankOrder.{count_to-rises}
 use Rattle.race_model.proofs.Ranks.PositionTotals.{count_to-58, count_to-most}
 use Rattle.race_model.proofs.Strategies.Horizons.{most_rolls-most}
@@ -25,7 +22,7 @@ use Rattle.retrograde.proofs.Levels.{pips-at_rank, level-end}
 use Rattle.retrograde.proofs.Placed.{bytes-of_record, length-bytes_of_rank, and-record}
 use Rattle.retrograde.proofs.RankShares.{none-of_rank, whole-of_rank}
 use Rattle.retrograde.proofs.level.add_level.Given.{Over}
-use Rattle.retrograde.proofs.level.add_level.Goals.{After-from-index, After-next_record-made, After-as_slice}
+use Rattle.retrograde.proofs.level.add_level.Goals.{After-from-index, After-next_record-mean, After-as_slice}
 use Rattle.retrograde.proofs.level.add_level.Goals as goal
 
 -- where a rank of the level stands among all
@@ -34,7 +31,7 @@ module _ (g : Over) (c : After-from-index g) where
   below : c.loop-rank.rank < count_to c.args.pips
   below = omega (arith, c.count_to-rank-end.ensures, c.loop-rank-test.true)
 
-  -- .. and below that of 58 pips
+  -- the rank is below the count of positions of 58 pips
   under : c.loop-rank.rank < count_to 58
   under =
       omega (
@@ -60,7 +57,7 @@ module _ (g : Over) (c : After-from-index g) where
   pips_is : pips (at_rank c.loop-rank.rank) ≡ c.args.pips
   pips_is = pips-at_rank c.args.pips c.loop-rank.rank c.loop-rank.invariant.from below
 
-  -- .. which is low
+  -- the pip count of the position is low
   low : c.args.pips ≤ 58
   low = omega (arith, c.requires.low, bound-most c.args.header.now)
 
@@ -147,9 +144,9 @@ advance-plays-requires g c =
       ),
     )
 
-pub next_record-made-requires : goal.next_record-made-requires
-next_record-made-requires g c =
-    let here = (goal.at.next_record-made-requires g c).After-from-index in
+pub next_record-mean-requires : goal.next_record-mean-requires
+next_record-mean-requires g c =
+    let here = (goal.at.next_record-mean-requires g c).After-from-index in
     let value = rw c.unwrap-position.ensures at c.unrank.ensures.value in
     let ranked = rw c.unwrap-position.ensures at c.unrank.ensures.ranked in
     let position = rw c.unwrap-position.ensures at c.unrank.ensures.position in
@@ -168,35 +165,43 @@ next_record-made-requires g c =
       };
       next = ranked ∙ sym made;
       best = c.advance-plays.ensures.best;
-      len = c.advance-plays.ensures.len;
     }
 
 -- what was made is the record of the rank
-module _ (g : Over) (c : After-next_record-made g) where
+module _ (g : Over) (c : After-next_record-mean g) where
   -- its position has the rank
   ranked : rank c.unwrap-position.result ≡ c.loop-rank.rank
   ranked = rw c.unwrap-position.ensures at c.unrank.ensures.ranked
 
   -- so it is the record of that rank
   record_is : (full : AllRecords) →
-      IsRecordOfRank full c.loop-rank.rank c.next_record-made.result.mean
-      c.next_record-made.result.plays c.next_record-made.result.spread
-  record_is full = rw ranked at (c.next_record-made.ensures full)
+      IsRecordOfRank full c.loop-rank.rank c.next_record-mean.result
+      c.advance-plays.result c.next_record-mean.new.spread
+  record_is full = rw ranked at (c.next_record-mean.ensures full)
 
 pub keep-requires-clause-none : goal.keep-requires-clause-none
 keep-requires-clause-none g c k past =
     let here = (goal.at.keep-requires-clause-none g c).After-from-index in
-    let made = record_is g (goal.at.keep-requires-clause-none g c).After-next_record-made in
+    let made = record_is g (goal.at.keep-requires-clause-none g c).After-next_record-mean in
     ap (λ (xs : List ℕ). slice_index xs k) (made all-records).shares_are
     ∙ none-of_rank all-records c.loop-rank.rank (under g here) k
     (omega (arith, past, c.most_rolls-end.ensures, ap most_rolls (pips_is g here)))
+
+pub keep-requires-clause-few : goal.keep-requires-clause-few
+keep-requires-clause-few g c =
+    omega (
+      arith,
+      c.most_rolls-end.ensures,
+      most_rolls-most c.args.pips
+          (low g (goal.at.keep-requires-clause-few g c).After-from-index),
+    )
 
 -- the bytes that were made of a rank
 module _ (g : Over) (c : After-as_slice g) (below : c.loop-rank.rank < count_to c.args.pips)
     (under : c.loop-rank.rank < count_to 58)
     (pips_is : pips (at_rank c.loop-rank.rank) ≡ c.args.pips)
-    (full : AllRecords) (made : IsRecordOfRank full c.loop-rank.rank c.next_record-made.result.mean
-    c.next_record-made.result.plays c.next_record-made.result.spread) where
+    (full : AllRecords) (made : IsRecordOfRank full c.loop-rank.rank c.next_record-mean.result
+    c.advance-plays.result c.next_record-mean.new.spread) where
   abbrev version : Version
   version = version_by c.args.header.now.version
 
@@ -204,14 +209,14 @@ module _ (g : Over) (c : After-as_slice g) (below : c.loop-rank.rank < count_to 
   bytes_are : c.as_slice.result.now ≡ bytes_of_rank version full c.loop-rank.rank
   bytes_are =
       c.as_slice.ensures.value
-      ∙ c.record_bytes-bytes.ensures
+      ∙ c.put_record_bytes.ensures
       ∙ ap
       (λ p.
-      record_of version p c.next_record-made.result.mean c.next_record-made.result.plays
-      c.next_record-made.result.spread)
+      record_of version p c.next_record-mean.result c.advance-plays.result
+      c.next_record-mean.new.spread)
       (sym pips_is)
-      ∙ bytes-of_record version full c.loop-rank.rank c.next_record-made.result.mean
-      c.next_record-made.result.plays c.next_record-made.result.spread made
+      ∙ bytes-of_record version full c.loop-rank.rank c.next_record-mean.result
+      c.advance-plays.result c.next_record-mean.new.spread made
 
   -- they end where the next record begins
   ends : record_place version c.loop-rank.rank + length c.as_slice.result.now
@@ -225,7 +230,7 @@ module _ (g : Over) (c : After-as_slice g) (below : c.loop-rank.rank < count_to 
         ap (record_place version) (add-one c.loop-rank.rank),
       )
 
-  -- .. and so inside the level
+  -- the bytes of the record end inside the level
   inside : c.loop-rank.start + length c.as_slice.result.now ≤ length c.loop-rank.level
   inside =
       let n = c.loop-rank.rank in
@@ -246,7 +251,7 @@ module _ (g : Over) (c : After-as_slice g) (below : c.loop-rank.rank < count_to 
 pub put_bytes-start-requires : goal.put_bytes-start-requires
 put_bytes-start-requires g c =
     let here = (goal.at.put_bytes-start-requires g c).After-from-index in
-    let made = record_is g (goal.at.put_bytes-start-requires g c).After-next_record-made in
+    let made = record_is g (goal.at.put_bytes-start-requires g c).After-next_record-mean in
     inside g (goal.at.put_bytes-start-requires g c).After-as_slice (below g here) (under g here)
     (pips_is g here) all-records (made all-records)
 
@@ -254,7 +259,7 @@ pub loop-rank-preserved : goal.loop-rank-preserved
 loop-rank-preserved g c =
     let here = (goal.at.loop-rank-preserved g c).After-from-index in
     let last = (goal.at.loop-rank-preserved g c).After-as_slice in
-    let made = record_is g (goal.at.loop-rank-preserved g c).After-next_record-made in
+    let made = record_is g (goal.at.loop-rank-preserved g c).After-next_record-mean in
     let ranked = rw c.unwrap-position.ensures at c.unrank.ensures.ranked in
     let n = c.loop-rank.rank in
     let is = c.loop-rank.invariant in
@@ -274,7 +279,7 @@ loop-rank-preserved g c =
     record {
       from = omega (arith, is.from);
       means_len =
-          length-set c.loop-rank.means c.from-index.result c.next_record-made.result.mean
+          length-set c.loop-rank.means c.from-index.result c.next_record-mean.result
           ∙ is.means_len;
       places_len = c.keep.ensures.places ∙ is.places_len;
       shares_len = c.keep.ensures.room ∙ is.shares_len;
@@ -283,16 +288,16 @@ loop-rank-preserved g c =
         means_are = λ full r less. ⊎_elim
             (λ earlier.
             get_or-set_other c.loop-rank.means c.from-index.result r
-            c.next_record-made.result.mean 0
+            c.next_record-mean.result 0
             (λ same. omega (arith, c.from-index.ensures))
             ∙ is.kept.means_are full r earlier)
             (λ late.
             let e : r ≡ c.from-index.result = omega (arith, c.from-index.ensures) in
             ap
             (slice_index
-            (slice_set c.loop-rank.means c.from-index.result c.next_record-made.result.mean)) e
+            (slice_set c.loop-rank.means c.from-index.result c.next_record-mean.result)) e
             ∙ get_or-set_same c.loop-rank.means c.from-index.result
-            c.next_record-made.result.mean 0 at
+            c.next_record-mean.result 0 at
             ∙ (made full).mean_is
             ∙ ap (mean_of_rank full) (omega (arith, c.from-index.ensures, e)))
             (cases_lt r n);

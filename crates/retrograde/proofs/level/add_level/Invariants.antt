@@ -1,9 +1,5 @@
-use Rattle.std.proofs.Common.{◌≡◌, ◌+◌, ◌-◌, ◌*◌, ◌≤◌, length, take}
-use Rattle.std.specs.Prelude.{slice_index}
-use Rattle.race_model.specs.Ranks.{first_of}
-use Rattle.race_model.specs.Horizon.{most_rolls}
-use Rattle.race_model.specs.Versions.{version_by}
-use Rattle.race_model.specs.Files.{record_place}
+use Rattle.std.proofs.Common.{◌≡◌, ◌+◌, ◌-◌, ◌*◌, ◌≤◌, length, take, slice_index}
+use Rattle.race_model.specs.Prelude.{first_of, most_rolls, version_by, record_place}
 use Rattle.db_layout.specs.WholeFiles.{records_from}
 use Rattle.least_plays.specs.Known.{Knows}
 use Rattle.retrograde.specs.AllRecords.{AllRecords, mean_of_rank, bytes_of_rank}

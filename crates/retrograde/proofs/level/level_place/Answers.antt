@@ -1,6 +1,5 @@
 use Rattle.std.proofs.Common.{arith}
-use Rattle.race_model.specs.Ranks.{first_of, count_to}
-use Rattle.race_model.specs.Versions.{version_by}
+use Rattle.race_model.specs.Prelude.{first_of, count_to, version_by}
 use Rattle.db_layout.proofs.RecordPlaces.{first_of-next}
 use Rattle.retrograde.proofs.Kept.{places-rise}
 use Rattle.retrograde.proofs.Levels.{level-end}

@@ -1,6 +1,5 @@
-use Rattle.std.proofs.Common.{◌≡◌, ℕ, ◌<◌, ◌≤◌, List, length, get_or}
-use Rattle.std.specs.Prelude.{slice_index}
-use Rattle.race_model.specs.Ranks.{rank}
+use Rattle.std.proofs.Common.{◌≡◌, ℕ, ◌<◌, ◌≤◌, List, length, get_or, slice_index}
+use Rattle.race_model.specs.Prelude.{rank}
 use Rattle.retrograde.proofs.plays.best_of.Given as goal
 
 -- the best of the positions so far

@@ -1,5 +1,5 @@
 use Rattle.std.proofs.Common.{slice_index, arith}
-use Rattle.race_model.specs.Positions.{IsFinished}
+use Rattle.race_model.specs.Prelude.{IsFinished}
 use Rattle.race_model.proofs.Ranks.BestPlays.{play-at_end}
 use Rattle.retrograde.proofs.Best.{legal-below}
 use Rattle.retrograde.proofs.plays.best_play.Goals as goal

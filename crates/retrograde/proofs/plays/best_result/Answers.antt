@@ -1,7 +1,5 @@
-use Rattle.std.proofs.Common.{◌≡◌, ◌<◌, ◌≤◌, List, length, All, Any, subst}
-use Rattle.std.specs.Prelude.{slice_index}
-use Rattle.race_model.specs.Positions.{Board}
-use Rattle.race_model.specs.Ranks.{rank}
+use Rattle.std.proofs.Common.{◌≡◌, ◌<◌, ◌≤◌, List, length, All, Any, subst, slice_index}
+use Rattle.race_model.specs.Prelude.{Board, rank}
 use Rattle.race_model.proofs.Numbers.Members.{all_of_members}
 use Rattle.retrograde.proofs.Best.{best-of_results}
 use Rattle.retrograde.proofs.plays.best_result.Goals as goal

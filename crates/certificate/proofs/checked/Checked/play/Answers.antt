@@ -1,6 +1,5 @@
 use Rattle.std.proofs.Common.{refl, sym, ap, subst, ◌∙◌, arith}
-use Rattle.race_model.specs.Plays.{Legal}
-use Rattle.race_model.specs.Ranks.{count_to, at_rank}
+use Rattle.race_model.specs.Prelude.{Legal, count_to, at_rank}
 use Rattle.race_model.proofs.Ranks.PositionTotals.{count_to-most}
 use Rattle.std.proofs.lemmas.Bool.{false≢true}
 use Rattle.certificate.proofs.Accepted.{play-of_lent, accepted-play, accepted-under}

@@ -1,7 +1,5 @@
 use Rattle.std.proofs.Common.{refl, ◌*◌, ◌≤◌, ap, subst, sym, ◌∙◌}
-use Rattle.race_model.specs.Files.{mean_of}
-use Rattle.race_model.specs.LocalEquations.{whole}
-use Rattle.race_model.specs.Strategies.{IsLeast}
+use Rattle.race_model.specs.Prelude.{mean_of, whole, IsLeast}
 use Rattle.std.proofs.lemmas.Bool.{false≢true}
 use Rattle.certificate.proofs.Accepted.{mean-of_lent, accepted-right, accepted-mean}
 use Rattle.certificate.proofs.Databases.{stays_seen}

@@ -1,7 +1,6 @@
 use Rattle.std.proofs.Common.{◌≤◌, arith, w8}
 use Rattle.std.proofs.Math.Facts.{Fits-of_lt}
-use Rattle.race_model.specs.Positions.{Board, IsPosition, pips}
-use Rattle.race_model.specs.Horizon.{most_rolls}
+use Rattle.race_model.specs.Prelude.{Board, IsPosition, pips, most_rolls}
 use Rattle.race_model.proofs.Ranks.RankOrder.{pips-range}
 use Rattle.race_model.proofs.Strategies.Horizons.{most_rolls-board}
 use Rattle.certificate.proofs.BoardNumberTests.{untold-holds}

@@ -1,7 +1,7 @@
 -- The mean of any other position is tested by its plays.
 use Rattle.std.proofs.Common.{sym, ◌∙◌, rules}
 use Rattle.std.proofs.lemmas.Bool.{false≢true}
-use Rattle.race_model.specs.Positions.{IsFinished}
+use Rattle.race_model.specs.Prelude.{IsFinished}
 use Rattle.certificate.proofs.BoardNumberTests.{results-are, below-are, mean-is}
 use Rattle.certificate.proofs.equations.PlayedRecordNumbers.has_mean.Goals.{Else-is_finished}
 use Rattle.certificate.proofs.equations.PlayedRecordNumbers.has_mean.Goals as goal

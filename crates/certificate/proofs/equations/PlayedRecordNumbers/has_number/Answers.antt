@@ -1,7 +1,6 @@
 -- A count that is told is tested by the plays, and any other one holds.
 use Rattle.std.proofs.Common.{◌≤◌, ◌<◌, refl, arith, rules}
-use Rattle.race_model.specs.Positions.{IsFinished, pips}
-use Rattle.race_model.specs.Horizon.{most_rolls}
+use Rattle.race_model.specs.Prelude.{IsFinished, pips, most_rolls}
 use Rattle.certificate.proofs.BoardNumberTests.{untold-holds, told-unfinished, below-are, count-is}
 use Rattle.certificate.proofs.equations.PlayedRecordNumbers.has_number.Goals.{Else-k-self}
 use Rattle.certificate.proofs.equations.PlayedRecordNumbers.has_number.Goals.{then-k-eq0-via-then-k-eq0}

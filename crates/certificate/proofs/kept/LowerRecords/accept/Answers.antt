@@ -1,7 +1,7 @@
 -- The mean that is set is that of the last rank, by which nothing is known yet, and it takes the
 -- place of one that is too far below.
 use Rattle.std.proofs.Common.{◌+◌, sym, arith}
-use Rattle.race_model.specs.Ranks.{rank}
+use Rattle.race_model.specs.Prelude.{rank}
 use Rattle.least_plays.proofs.Knowing.{knows_agree_near}
 use Rattle.certificate.specs.KeptMeans.{kept_mean}
 use Rattle.certificate.proofs.KeptMeans.{places_apart}

@@ -1,6 +1,5 @@
 use Rattle.std.proofs.Common.{ap, arith}
-use Rattle.race_model.specs.Versions.{Version}
-use Rattle.race_model.specs.Files.{record_place}
+use Rattle.race_model.specs.Prelude.{Version, record_place}
 use Rattle.race_model.proofs.RightFiles.Places.{record_place-full}
 use Rattle.db_layout.proofs.header.Header.find_full.Goals as goal
 

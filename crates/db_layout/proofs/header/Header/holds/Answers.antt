@@ -1,6 +1,5 @@
 use Rattle.std.proofs.Common.{◌≡◌, ℕ, slice_index, refl, below_more, arith}
-use Rattle.race_model.specs.Versions.{version_by}
-use Rattle.race_model.specs.ToldShares.{told_share}
+use Rattle.race_model.specs.Prelude.{version_by, told_share}
 use Rattle.db_layout.proofs.header.Header.holds.Goals as goal
 
 pub loop-k-init : goal.loop-k-init

@@ -1,6 +1,5 @@
 use Rattle.std.proofs.Common.{◌≡◌, ℕ, ◌<◌, slice_index}
-use Rattle.race_model.specs.Versions.{version_by}
-use Rattle.race_model.specs.ToldShares.{told_share}
+use Rattle.race_model.specs.Prelude.{version_by, told_share}
 use Rattle.db_layout.proofs.header.Header.holds.Given as goal
 
 -- the shares so far are told

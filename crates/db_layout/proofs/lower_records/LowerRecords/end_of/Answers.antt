@@ -1,6 +1,6 @@
 -- A record ends where the next one begins.
 use Rattle.std.proofs.Common.{ap, sym, ◌∙◌, arith}
-use Rattle.race_model.specs.BoardFiles.{board_length, board_place}
+use Rattle.race_model.specs.Prelude.{board_length, board_place}
 use Rattle.db_layout.proofs.RecordPlaces.{pips_between}
 use Rattle.db_layout.proofs.BoardPlaces.{board_place-next}
 use Rattle.db_layout.specs.LowerRecords.{Lower}

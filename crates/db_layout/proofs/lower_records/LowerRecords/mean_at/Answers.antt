@@ -1,8 +1,6 @@
 -- The mean stands at the front of the record.
 use Rattle.std.proofs.Common.{◌≡◌, ◌+◌, ◌*◌, ◌^◌, ◌<◌, ◌≤◌, length, slice_index, ap, ◌∙◌, arith}
-use Rattle.race_model.specs.Positions.{pips}
-use Rattle.race_model.specs.Ranks.{at_rank}
-use Rattle.race_model.specs.BoardFiles.{board_length, board_place, board_record, mean_parts}
+use Rattle.race_model.specs.Prelude.{pips, at_rank, board_length, board_place, board_record, mean_parts}
 use Rattle.db_layout.specs.LowerRecords.{Lower, board_mean}
 use Rattle.db_layout.proofs.KnownRecords.{mean-written, mean-most, mean-upper, mean-lower, record-inside}
 use Rattle.db_layout.proofs.lower_records.LowerRecords.mean_at.Goals.{After-self, After-read_long-lower}

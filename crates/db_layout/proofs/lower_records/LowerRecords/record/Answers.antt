@@ -1,9 +1,6 @@
 -- The bytes of a record lie within those of the file.
 use Rattle.std.proofs.Common.{◌≡◌, ◌-◌, ◌<◌, slice_index, ap, ap₂, ◌∙◌, arith}
-use Rattle.race_model.specs.Positions.{pips}
-use Rattle.race_model.specs.Ranks.{at_rank}
-use Rattle.race_model.specs.Files.{bytes_at}
-use Rattle.race_model.specs.BoardFiles.{board_length, board_place, board_record}
+use Rattle.race_model.specs.Prelude.{pips, at_rank, bytes_at, board_length, board_place, board_record}
 use Rattle.db_layout.proofs.BoardPlaces.{board_place-next}
 use Rattle.db_layout.specs.LowerRecords.{Lower}
 use Rattle.db_layout.proofs.KnownRecords.{record-inside}

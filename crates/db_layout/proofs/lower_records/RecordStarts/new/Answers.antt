@@ -1,6 +1,6 @@
 -- No record begins yet.
 use Rattle.std.proofs.Common.{arith}
-use Rattle.race_model.specs.BoardFiles.{board_length}
+use Rattle.race_model.specs.Prelude.{board_length}
 use Rattle.race_model.proofs.RightFiles.Places.{board_place-by, place_by-first}
 use Rattle.db_layout.proofs.lower_records.RecordStarts.new.Goals as goal
 

@@ -1,8 +1,7 @@
 -- One record more begins behind the others.
 use Rattle.std.proofs.Common.{◌≡◌, ap, ◌∙◌, length-set, w32, arith}
 use Rattle.std.proofs.Math.Facts.{Fits-of_lt}
-use Rattle.race_model.specs.BoardFiles.{board_place}
-use Rattle.race_model.specs.BoardEquations.{IsLocalOnBoard}
+use Rattle.race_model.specs.Prelude.{board_place, IsLocalOnBoard}
 use Rattle.race_model.proofs.Numbers.Members.{set_next}
 use Rattle.db_layout.specs.LowerRecords.{leading_at}
 use Rattle.db_layout.proofs.BoardPlaces.{board_place-most, board_place-next}

@@ -1,6 +1,5 @@
 use Rattle.std.proofs.Common.{ap, sym, ◌∙◌}
-use Rattle.race_model.specs.Versions.{version_by}
-use Rattle.race_model.specs.Files.{mean_of}
+use Rattle.race_model.specs.Prelude.{version_by, mean_of}
 use Rattle.race_model.proofs.Strategies.Horizons.{most_rolls-most}
 use Rattle.race_model.proofs.RightFiles.ToldRecords.{told_mean}
 use Rattle.db_layout.proofs.record.RecordView.mean.Goals as goal

@@ -1,7 +1,5 @@
 use Rattle.std.proofs.Common.{ap, sym, ◌∙◌, arith}
-use Rattle.race_model.specs.Dice.{roll_index}
-use Rattle.race_model.specs.Versions.{version_by}
-use Rattle.race_model.specs.Files.{play_of}
+use Rattle.race_model.specs.Prelude.{roll_index, version_by, play_of}
 use Rattle.race_model.proofs.Strategies.Horizons.{most_rolls-most}
 use Rattle.race_model.proofs.RightFiles.ToldRecords.{told_play}
 use Rattle.db_layout.proofs.record.RecordView.play.Goals as goal

@@ -5,11 +5,8 @@ use Rattle.std.proofs.lemmas.Bool.{lt-leb, cases_lt}
 use Rattle.std.proofs.Math.Dec.{leb}
 use Rattle.std.proofs.lemmas.List.{drop-drop, drop-take}
 use Rattle.std.specs.Int.{w128, from_be_bytes}
-use Rattle.race_model.specs.Horizon.{most_rolls}
-use Rattle.race_model.specs.Versions.{Version, full, compact, version_by, first_share, share_count}
-use Rattle.race_model.specs.Versions.{record_length}
-use Rattle.race_model.specs.Files.{bytes_at, share_of}
-use Rattle.race_model.specs.ToldShares.{told_share}
+use Rattle.race_model.specs.Prelude.{most_rolls, Version, full, compact, version_by, first_share, share_count}
+use Rattle.race_model.specs.Prelude.{record_length, bytes_at, share_of, told_share}
 use Rattle.race_model.proofs.Strategies.Horizons.{most_rolls-most}
 use Rattle.race_model.proofs.RightFiles.ToldRecords.{told_shares}
 use Rattle.db_layout.specs.StoredShares.{stored_share, share_by}

@@ -1,5 +1,5 @@
 use Rattle.std.proofs.Common.{ap, sym, ◌∙◌, arith}
-use Rattle.race_model.specs.Ranks.{count_to}
+use Rattle.race_model.specs.Prelude.{count_to}
 use Rattle.race_model.proofs.Ranks.PositionTotals.{count_to-most}
 use Rattle.race_model.proofs.FirstFaults.Questions.{within_bound}
 use Rattle.db_layout.specs.Layouts.{length_in}

@@ -1,8 +1,7 @@
 use Rattle.std.proofs.Common.{◌≡◌, ◌≢◌, ℕ, ◌+◌, ◌*◌, refl, sym, ap, ◌∙◌, w64, arith}
 use Rattle.std.proofs.Math.Facts.{Fits-of_lt}
-use Rattle.race_model.specs.Ranks.{first_of}
-use Rattle.race_model.specs.Versions.{Version, full, compact, version_by, stated_length, record_length}
-use Rattle.race_model.specs.Files.{record_place, place_by}
+use Rattle.race_model.specs.Prelude.{first_of, Version, full, compact, version_by, stated_length, record_length}
+use Rattle.race_model.specs.Prelude.{record_place, place_by}
 use Rattle.race_model.proofs.RightFiles.Places.{record_place-full}
 use Rattle.db_layout.specs.Layouts.{layout_in, length_in}
 use Rattle.db_layout.specs.declared.stated.Kind.{Kind}
@@ -19,7 +18,7 @@ level Database version r some = by_version (version_by version) some where
   by_version compact none = absurd (none refl)
 level Board version r none = absurd (none refl)
 
--- .. and any others are as long as those of version 2
+-- records whose bytes are not stated are as long as those of version 2
 as_compact : (kind : Kind) (version : ℕ) → (layout_in kind version).stated ≡ 0 →
     length_in kind 2 ≡ length_in kind version
 as_compact Database version none = by_version (version_by version) none where

@@ -1,8 +1,5 @@
 use Rattle.std.proofs.Common.{ap, ◌∙◌}
-use Rattle.race_model.specs.Ranks.{first_of}
-use Rattle.race_model.specs.Versions.{compact}
-use Rattle.race_model.specs.Files.{record_place}
-use Rattle.race_model.specs.BoardFiles.{board_place}
+use Rattle.race_model.specs.Prelude.{first_of, compact, record_place, board_place}
 use Rattle.db_layout.proofs.KnownStarts.{at_start, at_board_start}
 use Rattle.db_layout.proofs.stated.Kind.start_of.Goals as goal
 

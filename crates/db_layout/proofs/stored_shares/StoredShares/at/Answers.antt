@@ -2,11 +2,8 @@
 use Rattle.std.proofs.Common.{◌≡◌, ◌≢◌, ℕ, zero, suc, ◌+◌, ◌*◌, ◌<◌, ◌≤◌, refl, sym, ap, ◌∙◌, arith, cond}
 use Rattle.std.proofs.lemmas.Bool.{le-leb, eq-eqb, ne_eqb}
 use Rattle.std.specs.Int.{w128, from_be_bytes}
-use Rattle.race_model.specs.Files.{bytes_at}
-use Rattle.race_model.specs.Horizon.{most_rolls}
-use Rattle.race_model.specs.LocalEquations.{whole}
-use Rattle.race_model.specs.Versions.{Version, full, compact, version_by, first_share, share_count}
-use Rattle.race_model.specs.ToldShares.{told_share}
+use Rattle.race_model.specs.Prelude.{bytes_at, most_rolls, whole, Version, full, compact, version_by, first_share}
+use Rattle.race_model.specs.Prelude.{share_count, told_share}
 use Rattle.db_layout.specs.StoredShares.{stored_share, share_by}
 use Rattle.db_layout.proofs.stored_shares.StoredShares.at.Goals.{then-self-eq0, else-self-eq0}
 use Rattle.db_layout.proofs.stored_shares.StoredShares.at.Goals.{else-k-eq0-via-then-k-eq0+else-self-eq-COMPACT_VERSION}

@@ -1,9 +1,8 @@
 -- Beyond the most rolls there is no share.
 use Rattle.std.proofs.Common.{◌≡◌, ℕ, zero, suc, ◌+◌, ◌≤◌, ap, arith, cond}
 use Rattle.std.proofs.lemmas.Bool.{lt-leb}
-use Rattle.race_model.specs.Horizon.{most_rolls}
-use Rattle.race_model.specs.Versions.{Version, full, compact, version_by, first_share, share_count}
-use Rattle.race_model.specs.ToldShares.{told_share}
+use Rattle.race_model.specs.Prelude.{most_rolls, Version, full, compact, version_by, first_share, share_count}
+use Rattle.race_model.specs.Prelude.{told_share}
 use Rattle.db_layout.specs.StoredShares.{stored_share, share_by}
 use Rattle.db_layout.proofs.stored_shares.StoredShares.end.Goals as goal
 

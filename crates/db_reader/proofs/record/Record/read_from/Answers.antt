@@ -1,8 +1,7 @@
 use Rattle.std.proofs.Common.{◌≡◌, ℕ, List, length, take, drop, ◌++◌, Result, Ok, Err, OnOk, ap, subst, ◌∙◌, arith}
 use Rattle.std.proofs.lemmas.List.{length-take-le}
 use Rattle.std.proofs.Math.Seq.{take-append_seam}
-use Rattle.race_model.specs.Versions.{version_by, record_length}
-use Rattle.race_model.specs.Files.{bytes_at, told_record}
+use Rattle.race_model.specs.Prelude.{version_by, record_length, bytes_at, told_record}
 use Rattle.race_model.proofs.RightFiles.Places.{length-bytes_at, record_length-most}
 use Rattle.db_reader.proofs.record.Record.read_from.Goals as goal
 

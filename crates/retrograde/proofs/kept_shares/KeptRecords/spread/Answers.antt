@@ -1,7 +1,6 @@
 -- The shares that are lent are those between two places.
-use Rattle.std.proofs.Common.{◌≡◌, ◌+◌, ◌-◌, ◌%◌, ap, sum, ◌∙◌, arith}
-use Rattle.std.specs.Prelude.{slice_index}
-use Rattle.race_model.specs.Files.{bytes_at}
+use Rattle.std.proofs.Common.{◌≡◌, ◌+◌, ◌-◌, ◌%◌, ap, sum, ◌∙◌, arith, slice_index}
+use Rattle.race_model.specs.Prelude.{bytes_at}
 use Rattle.race_model.proofs.RightFiles.Places.{length-bytes_at}
 use Rattle.retrograde.specs.KeptShares.{shares_in, shares_kept}
 use Rattle.retrograde.proofs.kept_shares.KeptRecords.spread.Goals.{After-from-index}

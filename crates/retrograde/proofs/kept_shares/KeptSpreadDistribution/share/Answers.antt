@@ -1,7 +1,7 @@
 -- One of the shares in the bytes.
 use Rattle.std.proofs.Common.{◌*◌, sym, ap, ◌∙◌, arith}
 use Rattle.std.specs.Int.{w128, from_le_bytes}
-use Rattle.race_model.specs.Files.{bytes_at}
+use Rattle.race_model.specs.Prelude.{bytes_at}
 use Rattle.retrograde.proofs.KeptShares.{share-in}
 use Rattle.retrograde.proofs.kept_shares.KeptSpreadDistribution.share.Goals as goal
 

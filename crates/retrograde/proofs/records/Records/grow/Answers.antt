@@ -1,9 +1,8 @@
-use Rattle.std.proofs.Common.{◌≡◌, ⊎_elim, ℕ, ◌+◌, ◌-◌, ◌<◌, ◌≤◌, List, length, take}
-use Rattle.std.proofs.Common.{sym, ap, ◌∙◌, arith, replicate, refl}
-use Rattle.std.specs.Prelude.{slice_index, slice_index_or, vec_len}
+use Rattle.std.proofs.Common.{◌≡◌, ⊎_elim, ℕ, ◌+◌, ◌-◌, ◌<◌, ◌≤◌, List, length, take, sym, ap, ◌∙◌, arith, replicate}
+use Rattle.std.proofs.Common.{refl, slice_index, slice_index_or, vec_len}
 use Rattle.std.proofs.lemmas.Bool.{cases_lt}
 use Rattle.std.proofs.lemmas.List.{get_or_past, get_or_read, length-take, take-append-le, take-take}
-use Rattle.race_model.specs.Ranks.{first_of}
+use Rattle.race_model.specs.Prelude.{first_of}
 use Rattle.retrograde.proofs.Kept.{kept-stays}
 use Rattle.retrograde.proofs.Levels.{level-end}
 use Rattle.retrograde.proofs.records.Records.grow.Goals.{In_ok-resize-4}
@@ -77,7 +76,7 @@ module _ (c : In_ok-resize-4) where
       c.index.ensures 0
       ∙ ap (slice_index c.resize-2.new.self.items) (c.from.ensures ∙ c.first_of.ensures)
 
-  -- .. which is no further than it was
+  -- the next place is no further than it was
   inside : slice_index c.args.self.now.places.items (first_of c.args.pips)
       ≤ length c.args.self.now.shares.items
   inside = c.requires.kept.placed.inside
