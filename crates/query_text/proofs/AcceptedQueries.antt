@@ -1,7 +1,6 @@
 -- A query that is read from a line, accepted or refused.
 use Rattle.std.proofs.Common.{◌≡◌, ℕ, ◌≤◌, List, subst}
-use Rattle.race_model.specs.Positions.{Board, pips}
-use Rattle.race_model.specs.Queries.{Query, mean_query, IsQuery, HasTooMany, IsAccepted}
+use Rattle.race_model.specs.Prelude.{Board, pips, Query, mean_query, IsQuery, HasTooMany, IsAccepted}
 use Rattle.query_text.specs.Readings.{IsAnswerable}
 
 -- a query of the line that the database answers is accepted
@@ -16,7 +15,7 @@ accepted_query bound line q is few can =
       result = can.result;
     }
 
--- .. and one of a mean where its position is of at most the bound
+-- a query of a mean is accepted where its position is of at most the bound
 pub accepted_mean : (bound : ℕ) (line : List ℕ) (x : Board) → IsQuery line (mean_query x)
     → ¬ HasTooMany (mean_query x) → pips x ≤ bound → IsAccepted bound line (mean_query x)
 accepted_mean bound line x is few within =

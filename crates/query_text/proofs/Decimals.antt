@@ -1,12 +1,10 @@
 -- Numbers in decimal, written in two parts or three.
-use Rattle.std.proofs.Common.{◌≡◌, ◌⊎◌, inl, inr, ℕ, zero, suc, ◌+◌, ◌*◌, ◌/◌, ◌%◌, ◌^◌, ◌<◌, ◌≤◌}
-use Rattle.std.proofs.Common.{[], ◌∷◌, ◌++◌, length, drop, ap, sym, ◌∙◌, arith, append_assoc}
-use Rattle.std.proofs.Common.{length-append}
-use Rattle.std.specs.Prelude.{decimal}
+use Rattle.std.proofs.Common.{◌≡◌, ◌⊎◌, inl, inr, ℕ, zero, suc, ◌+◌, ◌*◌, ◌/◌, ◌%◌, ◌^◌, ◌<◌, ◌≤◌, [], ◌∷◌, ◌++◌}
+use Rattle.std.proofs.Common.{length, drop, ap, sym, ◌∙◌, arith, append_assoc, length-append, decimal}
 use Rattle.std.proofs.lemmas.Bool.{cases_lt}
 use Rattle.std.proofs.lemmas.Fmt.{decimal_step_wide, decimal_digit}
 use Rattle.std.proofs.lemmas.List.{append-nil, drop-append-le}
-use Rattle.std.proofs.Math.Nat.{pow-succ', pow-zero, one-le-pow, pow-le-pow_right}
+use Rattle.std.proofs.Math.Nat.{pow-succ', pow-zero, one-le-pow}
 
 -- a number has a digit
 pub some_digit : (n : ℕ) → n < 10 ^ 64 → 1 ≤ length (decimal n)
@@ -134,7 +132,7 @@ front_and_18 number front rest whole some few short =
     ap decimal (sym whole) ∙ two_parts 18 front rest some few (omega arith)
     (omega (arith, whole, short))
 
--- .. and of a longer one those of its front, the 18 after it, and the last 18
+-- the digits of a longer number are those of its front, the 18 after it, and the last 18
 pub front_and_36 : (number front middle rest : ℕ) →
     front * 10 ^ 36 + middle * 10 ^ 18 + rest ≡ number → 0 < front → middle < 10 ^ 18 →
     rest < 10 ^ 18 → number < 10 ^ 58 →
@@ -146,7 +144,3 @@ front_and_36 number front middle rest whole some mid few short =
     ∙ ap (λ t. t ++ drop 1 (decimal (10 ^ 18 + rest)))
     (front_and_18 (front * 10 ^ 18 + middle) front middle (omega arith) some mid
     (omega (arith, whole, short)))
-
--- a number of at most 58 digits is below 10 ^ 58
-pub short_of : (n most : ℕ) → n < 10 ^ most → most ≤ 58 → n < 10 ^ 58
-short_of n most short few = omega (arith, short, pow-le-pow_right {n = 10} (omega arith) few)

@@ -1,13 +1,12 @@
 -- What a writer was given of bytes that wait, over several steps, and prefixes of it.
 use Rattle.std.proofs.Common.{◌≡◌, ◌⊎◌, inl, inr, ℕ, ◌+◌, ◌≤◌, ◌<◌, min, List, [], ◌++◌, length}
-use Rattle.std.proofs.Common.{take, Option, Result, Ok, Err, OnOk, OnErr, ap, sym, subst, ◌∙◌}
-use Rattle.std.proofs.Common.{arith, append_assoc}
+use Rattle.std.proofs.Common.{take, Option, Result, Ok, Err, OnOk, OnErr, ap, sym, subst, ◌∙◌, arith, append_assoc}
 use Rattle.std.specs.Io.KnownBytes.{Appends}
-use Rattle.std.proofs.lemmas.List.{append-nil, take-append-le, take_all}
+use Rattle.std.proofs.lemmas.List.{take-append-le, take_all}
 use Rattle.std.proofs.lemmas.Bool.{cases_lt}
 use Rattle.std.proofs.Math.Seq.{take-append-add}
 use Rattle.db_layout.specs.Writes.{AppendsPart}
-use Rattle.db_layout.proofs.Known.{appends_none, appends_twice}
+use Rattle.db_layout.proofs.Known.{appends_twice}
 use Rattle.query_text.specs.Held.{Takes}
 
 -- what grew by other bytes grew by these, where they are the same
@@ -61,35 +60,6 @@ part_all old new bytes h = (
       (sym (take_all (length bytes) bytes (omega arith))) h,
 )
 
--- nothing was written, and nothing waits that didn't before
-pub takes_none : (old : Option (List ℕ)) (before : List ℕ) → Takes old old before before []
-takes_none old before = record {
-  written = [];
-  appended = appends_none old;
-  joined =
-      append-nil before;
-}
-
--- bytes that wait behind those before them
-pub takes_held : (old : Option (List ℕ)) (before after bytes : List ℕ) → after ≡ before ++ bytes
-    → Takes old old before after bytes
-takes_held old before after bytes e = record {
-  written = [];
-  appended = appends_none old;
-  joined =
-      sym e;
-}
-
--- all that waited was written
-pub takes_written : (old new : Option (List ℕ)) (before after : List ℕ) → Appends old new before
-    → after ≡ [] → Takes old new before after []
-takes_written old new before after h e = record {
-  written = before;
-  appended = h;
-  joined = ap
-      (λ t. before ++ t) (sym e);
-}
-
 -- two steps
 pub takes_twice : (old mid new : Option (List ℕ)) (first second third xs ys : List ℕ)
     → Takes old mid first second xs
@@ -114,7 +84,7 @@ takes_and_written old mid new waiting xs more a h =
     (sym (append_assoc a.written waiting more) ∙ ap (λ t. t ++ more) (sym a.joined))
     (appends_twice old mid new a.written (waiting ++ more) a.appended h)
 
--- .. and a prefix of what was then to be written is one of all
+-- a prefix of what was then to be written, after what was taken, is one of all
 pub takes_and_part : (old mid new : Option (List ℕ)) (waiting xs more : List ℕ)
     → Takes old mid [] waiting xs
     → AppendsPart mid new (waiting ++ more) → AppendsPart old new (xs ++ more)
@@ -147,7 +117,7 @@ takes_same old new before after xs ys e a =
           ∙ a.joined;
     }
 
--- .. and at an answer
+-- what holds whatever the result holds at an answer
 pub on_ok_of : {T E P : Type 0} (r : Result T E) → P → OnOk r P
 on_ok_of (Ok x) h = h
 on_ok_of (Err e) h = tt

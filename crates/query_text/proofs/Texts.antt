@@ -1,12 +1,10 @@
 -- The texts of positions, plays and shares.
-use Rattle.std.proofs.Common.{◌≡◌, ℕ, ◌+◌, ◌<◌, List, [], ◌∷◌, ◌++◌, length, get_or, take, drop}
-use Rattle.std.proofs.Common.{map, codes, ap, sym, ◌∙◌, arith, append_assoc}
-use Rattle.std.specs.Prelude.{flat_map}
+use Rattle.std.proofs.Common.{◌≡◌, ℕ, ◌+◌, ◌<◌, List, [], ◌∷◌, ◌++◌, length, get_or, take, drop, map, codes, ap, sym}
+use Rattle.std.proofs.Common.{◌∙◌, arith, append_assoc, flat_map}
 use Rattle.std.specs.List.{join_with_byte}
 use Rattle.std.proofs.lemmas.List.{append-nil, take_more, take-append-drop}
 use Rattle.std.proofs.lemmas.Grind.{flat_map-append}
-use Rattle.race_model.specs.Positions.{Board, IsPosition}
-use Rattle.race_model.specs.PositionText.{IsPositionText}
+use Rattle.race_model.specs.Prelude.{Board, IsPosition, IsPositionText}
 use Rattle.race_model.proofs.Positions.OneText.{one_text}
 use Rattle.home_board.proofs.Written.{joined_states}
 use Rattle.query_text.specs.Texts.{position_text}
@@ -15,7 +13,7 @@ use Rattle.query_text.specs.Texts.{position_text}
 pub position_text_states : (x : Board) → IsPosition x → IsPositionText (position_text x) x
 position_text_states x is = joined_states x is
 
--- .. and the only one
+-- counts in decimal with commas between are the only text of the position
 pub position_text_is : (x : Board) (text : List ℕ) → IsPosition x → IsPositionText text x
     → text ≡ position_text x
 position_text_is x text is states = one_text x text (position_text x) states

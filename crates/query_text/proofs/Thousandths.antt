@@ -2,7 +2,7 @@
 use Rattle.std.proofs.Common.{◌≡◌, ℕ, ◌+◌, ◌*◌, ◌<◌, ◌≤◌, arith}
 use Rattle.std.proofs.Math.Nat.{mul-le-mul_right, le_of_mul-le-mul_right}
 use Rattle.std.proofs.Math.Nat.{lt_of_mul-lt-mul_right, mul-lt-mul_of_pos_right}
-use Rattle.race_model.specs.Fractions.{IsThousandths}
+use Rattle.race_model.specs.Prelude.{IsThousandths}
 
 -- thousandths nearest to a number are nearest to the same number in lowest terms
 pub same_thousandths : (a b n d q : ℕ) → n * b ≡ a * d → 0 < b → 0 < d → IsThousandths a b q →

@@ -8,14 +8,11 @@ use Rattle.std.proofs.lemmas.Bool.{ltb-true, ltb-false}
 use Rattle.std.specs.List.{position, position_or_len, before_first, after_first, join_with_byte}
 use Rattle.std.proofs.lemmas.List.Splits.{join_with_byte-slice_split, slice_split_first, slice_split_none}
 use Rattle.std.proofs.lemmas.List.Sums.{split_at_first, passes_at_first, fails_before_first}
-use Rattle.race_model.specs.Positions.{Board}
-use Rattle.race_model.specs.PositionText.{IsPositionText}
-use Rattle.race_model.specs.Dice.{Die, number, Throw}
+use Rattle.race_model.specs.Prelude.{Board, IsPositionText, Die, number, Throw, Query as Asked, mean_query, dist_query}
+use Rattle.race_model.specs.Prelude.{play_query, loss_query, moves_query, rank_query, IsQuery, HasWords, HasTooMany}
+use Rattle.race_model.specs.Prelude.{IsRollText, words}
 use Rattle.legal_plays.specs.Faces.{roll_of}
 use Rattle.legal_plays.specs.Texts.{roll_text}
-use Rattle.race_model.specs.Queries.{Query as Asked, mean_query, dist_query, play_query, loss_query}
-use Rattle.race_model.specs.Queries.{moves_query, rank_query, IsQuery, HasWords, HasTooMany}
-use Rattle.race_model.specs.Queries.{IsRollText, words}
 use Rattle.home_board.specs.declared.position.Position.{Position}
 use Rattle.legal_plays.specs.declared.roll.Roll.{Roll}
 use Rattle.query_text.specs.declared.query.Word.{Word}
@@ -97,10 +94,6 @@ roll_read text (Some roll) valid value =
     let w = valid.0 refl in
     let same = value w.0 w.1 w.2 in
     subst (λ v. IsRollText text v) (sym same) (roll_of_text text w.0 w.1 w.2)
-
--- a text of no two words states no position and roll
-pub no_throw : (text : List ℕ) → words text ≡ text ∷ [] → IsThrowReading text (Err BadLine)
-no_throw text one p r x v is rolled e = cc
 
 -- nor does one whose second part is no roll
 pub no_roll : (text a b : List ℕ) → words text ≡ a ∷ words b → ((v : Throw) → ¬ IsRollText b v)
@@ -187,7 +180,7 @@ named word =
     (cond (eqb (get_or word 0 0) 100) AsksDist (cond (eqb (get_or word 0 0) 112) AsksPlay
     (cond (eqb (get_or word 0 0) 108) AsksLoss AsksRank))))
 
--- .. which is the kind of its own word
+-- the kind that a kind's own word names is that kind
 named-text_of_word : (k : Word) → named (text_of_word k) ≡ k
 unfolding named
 named-text_of_word AsksMean = refl
@@ -212,17 +205,7 @@ first_word line word more (loss_query x v y) e has = cc (has.6)
 first_word line word more (moves_query x v) e has = cc (has.4)
 first_word line word more (rank_query x) e has = cc (has.2)
 
--- a line asks nothing where it is one word
-pub one_word_asks_nothing : (line : List ℕ) (q : Asked) → words line ≡ line ∷ [] → HasWords line q
-    → ⊥
-one_word_asks_nothing line (mean_query x) e has = cc (has.2)
-one_word_asks_nothing line (dist_query x) e has = cc (has.2)
-one_word_asks_nothing line (play_query x v) e has = cc (has.4)
-one_word_asks_nothing line (loss_query x v y) e has = cc (has.6)
-one_word_asks_nothing line (moves_query x v) e has = cc (has.4)
-one_word_asks_nothing line (rank_query x) e has = cc (has.2)
-
--- .. and where its first word is that of no kind
+-- a line asks nothing where its first word is that of no kind
 pub no_kind : (line word : List ℕ) (more : List (List ℕ)) (q : Asked) → words line ≡ word ∷ more
     → ((k : Word) → word ≢ text_of_word k) → HasWords line q → ⊥
 no_kind line word more q e none has = none (word_in q) (first_word line word more q e has)
@@ -247,7 +230,7 @@ throw_joined : (word p r : List ℕ) → word ++ (p ++ (32 ∷ r)) ≡ word ++ p
 throw_joined word p r = sym (append_assoc (word ++ p) (codes " ") r ∙ append_assoc word p
     (codes " " ++ r))
 
--- .. and so a text of a position, a roll and a result
+-- a text of a position, a roll and a result after a word, bracketed the other way
 loss_joined : (p r q : List ℕ)
     → codes "loss " ++
     ((p ++ (32 ∷ r)) ++ (32 ∷ q)) ≡ codes "loss " ++ p ++ codes " " ++ r ++ codes " " ++ q

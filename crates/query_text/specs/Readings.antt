@@ -1,11 +1,8 @@
 -- What reading a line gives, in the words of the definitions.
 use Rattle.std.specs.Prelude.{◌≡◌, ◌≢◌, ℕ, ◌<◌, ◌≤◌, ◌⊎◌, List, [], ◌∷◌, ◌++◌, codes, Result, Ok, Err}
-use Rattle.race_model.specs.Positions.{Board, checkers, pips}
-use Rattle.race_model.specs.PositionText.{IsPositionText}
-use Rattle.race_model.specs.Dice.{Throw}
-use Rattle.race_model.specs.Queries.{Query as Asked, mean_query, dist_query, play_query, loss_query}
-use Rattle.race_model.specs.Queries.{moves_query, rank_query, IsQuery, HasTooMany, IsRollText}
-use Rattle.race_model.specs.Queries.{words, subject, AsksOfFinished, HasResult}
+use Rattle.race_model.specs.Prelude.{Board, checkers, pips, IsPositionText, Throw, Query as Asked, mean_query}
+use Rattle.race_model.specs.Prelude.{dist_query, play_query, loss_query, moves_query, rank_query, IsQuery, HasTooMany}
+use Rattle.race_model.specs.Prelude.{IsRollText, words, subject, AsksOfFinished, HasResult}
 use Rattle.home_board.specs.declared.position.Position.{Position}
 use Rattle.legal_plays.specs.declared.roll.Roll.{Roll}
 use Rattle.query_text.specs.declared.query.Word.{Word}

@@ -1,11 +1,8 @@
--- The texts of replies and levels. Source: this project's profile.
+-- The texts of replies and levels.
 use Rattle.std.specs.Prelude.{◌≡◌, ℕ, List, ◌++◌, map, flat_map, slice_index, codes, decimal}
 use Rattle.std.specs.List.{join_with_byte}
-use Rattle.race_model.specs.Positions.{Board}
-use Rattle.race_model.specs.Fractions.{IsThousandths}
-use Rattle.race_model.specs.FirstPlays.{move_text}
-use Rattle.race_model.specs.Queries.{Refusal as Why, bad_line, too_many, over_bound, at_end, not_legal}
-use Rattle.race_model.specs.Replies.{fraction_text, thousandths_text, refusal_text, IsDistReply}
+use Rattle.race_model.specs.Prelude.{Board, IsThousandths, move_text, Refusal as Why, bad_line, too_many, over_bound}
+use Rattle.race_model.specs.Prelude.{at_end, not_legal, fraction_text, thousandths_text, refusal_text, IsDistReply}
 use Rattle.fixed_fraction.specs.Ratios.{Ratio}
 use Rattle.legal_plays.specs.MoveLists.{moves_of}
 use Rattle.query_text.specs.declared.reply.Choice.{Choice}
@@ -35,7 +32,11 @@ ratio_text ratio = fraction_text ratio.numerator ratio.denominator
 abbrev pub result_text : Board → ℕ → ℕ → List ℕ
 result_text y n d = codes " " ++ position_text y ++ codes ":" ++ fraction_text n d
 
--- .. those of a choice
+-- the share of k rolls, after a space
+abbrev pub share_text : ℕ → Ratio → List ℕ
+share_text k share = codes " " ++ decimal k ++ codes ":" ++ ratio_text share
+
+-- a choice with its loss, after a space
 abbrev pub choice_text : Choice → List ℕ
 choice_text choice = result_text choice.to choice.loss.numerator choice.loss.denominator
 

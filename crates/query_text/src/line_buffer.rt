@@ -1,6 +1,6 @@
 //! The line that is being read.
 ghost use Rattle.std.specs.Prelude.{◌≡◌, ℕ, ◌≤◌, List, [], ◌∷◌, ◌++◌, take, length};
-ghost use Rattle.race_model.specs.InputLines.{without_return};
+ghost use Rattle.race_model.specs.Prelude.{without_return};
 
 use arrayvec::ArrayVec;
 use std::marker::Model;

@@ -1,7 +1,6 @@
 //! What a line of input asks.
 ghost use Rattle.std.specs.Prelude.{◌≡◌, ◌≢◌, ℕ, ◌<◌, List, [], ◌∷◌, ◌++◌, ◌==◌, length, position, IfSome, MatchOption};
-ghost use Rattle.race_model.specs.Dice.{Throw};
-ghost use Rattle.race_model.specs.Queries.{mean_query, IsQuery, HasTooMany, IsRollText, words};
+ghost use Rattle.race_model.specs.Prelude.{Throw, mean_query, IsQuery, HasTooMany, IsRollText, words};
 ghost use Rattle.query_text.specs.Readings.{text_of_word, IsPositionReading, IsThrowReading};
 ghost use Rattle.query_text.specs.Readings.{IsResultReading, IsRestReading, IsReading, both};
 
@@ -68,9 +67,9 @@ pub(crate) fn read_query(line: &[u8]) -> Result<Query, LineFault>
     }
 }
 
-/// The position whose mean a line asks for, where it asks for one and is not refused by what
-/// stands there: what `read_query` tells too, without a look at the words of other kinds.
-pub fn read_mean(line: &[u8]) -> Option<Position>
+/// The position of a `mean` line, if the line is one and well formed: what `read_query` tells too,
+/// without a look at the words of other kinds.
+pub fn read_mean_query(line: &[u8]) -> Option<Position>
     ensures { IfSome result (λ position. IsQuery line.now (mean_query position)
         × (¬ HasTooMany (mean_query position))) }
 {

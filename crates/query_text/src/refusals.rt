@@ -1,7 +1,7 @@
 //! What a line asks, or why it is refused, by whatever answers it, as its bound says.
 ghost use Rattle.std.specs.Prelude.{◌≡◌, ℕ, ◌↔◌, List, IsTrue, IfOk, IfErr, MatchOption};
-ghost use Rattle.race_model.specs.Queries.{subject, AsksOfFinished, HasResult, IsQuery, HasTooMany};
-ghost use Rattle.race_model.specs.Queries.{IsRefused, IsAccepted};
+ghost use Rattle.race_model.specs.Prelude.{subject, AsksOfFinished, HasResult, IsQuery, HasTooMany, IsRefused};
+ghost use Rattle.race_model.specs.Prelude.{IsAccepted};
 ghost use Rattle.query_text.specs.Readings.{asked, IsAnswerable};
 ghost use Rattle.query_text.specs.Texts.{why};
 
@@ -47,10 +47,9 @@ fn has_result(query: &Query) -> bool
     }
 }
 
-/// Why a query is refused where positions have at most so many pips, and all that it names at most
-/// 15 checkers; none exactly where it is answered. A position over the bound comes first, then a
-/// play that is asked of the finished position, and then a result that the roll doesn't lead to
-/// (this project's profile).
+/// Why a query is refused within a bound. All its positions have at most 15 checkers; none exactly
+/// where it is answered. A position over the bound comes first, then a play that is asked of the
+/// finished position, and then a result that the roll doesn't lead to.
 fn refusal(query: &Query, bound: u8) -> Option<Refusal>
     ensures { MatchOption result (IsAnswerable bound (asked query.now))
         (λ refusal. (line : List ℕ) → IsQuery line (asked query.now)
@@ -69,8 +68,8 @@ fn refusal(query: &Query, bound: u8) -> Option<Refusal>
     None
 }
 
-/// What a line, which comes without its line feed, asks where positions have at most so many pips,
-/// or the first reason why it is refused.
+/// Reads a line within a bound, or finds the first reason to refuse it. The line comes without its
+/// line feed.
 pub fn accepted_query(line: &[u8], bound: u8) -> Result<Query, Refusal>
     ensures accepted { IfOk result (λ query. IsAccepted bound line.now (asked query)) }
     ensures refused { IfErr result (λ refusal. IsRefused bound line.now (why refusal)) }

@@ -3,7 +3,7 @@ use fixed_fraction::{Fraction, Spread};
 use home_board::Position;
 use legal_plays::Play;
 
-/// Why a line is refused, in the order of the tests (this project's profile).
+/// Why a line is refused, in the order of the tests.
 #[derive(Clone, Copy, Debug, PartialEq, Eq)]
 pub enum Refusal {
     /// It is not of the form of a query.
@@ -28,8 +28,7 @@ pub struct Choice {
     /// The position that the roll leads to.
     pub to: Position,
 
-    /// The mean number of rolls after it less the least mean after any result of the roll, in
-    /// rolls.
+    /// The loss in rolls: the mean after it, minus the least mean after the roll.
     pub loss: Fraction,
 }
 
@@ -49,7 +48,7 @@ pub struct Level {
     pub greatest: Fraction,
 }
 
-/// What a line is answered with (this project's profile).
+/// What a line is answered with.
 #[derive(Debug, Drop)]
 pub enum Reply {
     /// The mean number of rolls and the effective pip count.

@@ -1,31 +1,32 @@
 //! The texts of replies and levels.
-ghost use Rattle.std.specs.Prelude.{◌≡◌, ℕ, ◌+◌, ◌*◌, ◌^◌, ◌≤◌, ◌<◌, List, [], ◌++◌, drop, flat_map};
-ghost use Rattle.std.specs.Prelude.{decimal, codes};
+ghost use Rattle.std.specs.Prelude.{◌≡◌, ◌+◌, ◌^◌, ◌≤◌, ◌<◌, ◌++◌, drop, flat_map, decimal, codes, slice_index};
 ghost use Rattle.arrayvec.specs.ArrayString.{array_string_len};
-ghost use Rattle.race_model.specs.FirstPlays.{move_text};
-ghost use Rattle.race_model.specs.Replies.{fraction_text, thousandths_text, refusal_text};
-ghost use Rattle.race_model.specs.Replies.{IsSharePartOver, IsDistReplyOver};
-ghost use Rattle.query_text.specs.Texts.{position_text, result_text, why};
+ghost use Rattle.race_model.specs.Prelude.{move_text, fraction_text, thousandths_text, refusal_text, IsDistReply};
+ghost use Rattle.query_text.specs.Texts.{position_text, result_text, share_text, why};
 ghost use Rattle.legal_plays.specs.MoveLists.{moves_of};
 
-use crate::numbers::{Digits, Number};
 use crate::reply::Refusal;
 use arrayvec::ArrayString;
+use fixed_fraction::{Spread, Wide, WideFraction, share};
 use home_board::{Position, write_position};
 use itoa::Buffer;
 use legal_plays::{Play, write_play};
 
-/// Room for the text of any reply but a long list of moves.
-pub type Text = ArrayString<12288>;
+/// How many bytes a text has room for: a list of 127 results has at most 16,642.
+pub const TEXT_ROOM: usize = 16896;
+
+/// Room for the text of any reply.
+pub type Text = ArrayString<TEXT_ROOM>;
 
 /// 10 ^ 18.
 const DIGITS: u64 = 1_000_000_000_000_000_000;
 
 /// Adds a number in decimal.
-fn push_number<D: Digits, const ROOM: usize>(text: &mut ArrayString<ROOM>, number: D)
-    requires { array_string_len text.old + D.most ≤ ROOM }
-    ensures bytes { text.new.bytes ≡ text.old.bytes ++ decimal (D.value number) }
-    ensures len { array_string_len text.new ≤ array_string_len text.old + D.most }
+#[inline(always)]
+fn push_number(text: &mut Text, number: Wide)
+    requires { array_string_len text.old + 58 ≤ TEXT_ROOM }
+    ensures bytes { text.new.bytes ≡ text.old.bytes ++ decimal number }
+    ensures len { array_string_len text.new ≤ array_string_len text.old + 58 }
 {
     let (first, second, third) = number.digits();
     if first > 0 {
@@ -42,10 +43,10 @@ fn push_number<D: Digits, const ROOM: usize>(text: &mut ArrayString<ROOM>, numbe
 
 /// Adds the last digits of a number, given as their value, with the zeros in front: as many as a
 /// power of ten has zeros, 18 at most.
-fn push_last_digits<const ROOM: usize>(text: &mut ArrayString<ROOM>, power: u64, rest: u64)
+fn push_last_digits(text: &mut Text, power: u64, rest: u64)
     requires short { power ≤ 10 ^ 18 }
     requires few { rest < power }
-    requires room { array_string_len text.old + 18 ≤ ROOM }
+    requires room { array_string_len text.old + 18 ≤ TEXT_ROOM }
     ensures bytes { text.new.bytes ≡ text.old.bytes ++ drop 1 (decimal (power + rest)) }
     ensures len { array_string_len text.new ≤ array_string_len text.old + 18 }
 {
@@ -55,21 +56,21 @@ fn push_last_digits<const ROOM: usize>(text: &mut ArrayString<ROOM>, power: u64,
 }
 
 /// Adds a fraction, as 5/4.
-fn push_fraction<D: Digits, const ROOM: usize>(text: &mut ArrayString<ROOM>, fraction: (D, D))
-    requires { array_string_len text.old + 2 * D.most + 1 ≤ ROOM }
+pub fn push_fraction(text: &mut Text, fraction: WideFraction)
+    requires { array_string_len text.old + 117 ≤ TEXT_ROOM }
     ensures bytes { text.new.bytes
-        ≡ text.old.bytes ++ fraction_text (D.value fraction.0) (D.value fraction.1) }
-    ensures len { array_string_len text.new ≤ array_string_len text.old + 2 * D.most + 1 }
+        ≡ text.old.bytes ++ fraction_text fraction.numerator fraction.denominator }
+    ensures len { array_string_len text.new ≤ array_string_len text.old + 117 }
 {
-    push_number(text, fraction.0);
+    push_number(text, fraction.numerator());
     text.push_str("/");
-    push_number(text, fraction.1);
+    push_number(text, fraction.denominator());
 }
 
 /// Adds a number of thousandths, as 10.208.
 #[tactic(auto, using(crate::proofs::Decimals::three_digits, crate::proofs::Texts::digits_added))]
-fn push_thousandths<const ROOM: usize>(text: &mut ArrayString<ROOM>, number: u64)
-    requires { array_string_len text.old + 39 ≤ ROOM }
+pub fn push_thousandths(text: &mut Text, number: u64)
+    requires { array_string_len text.old + 39 ≤ TEXT_ROOM }
     ensures bytes { text.new.bytes ≡ text.old.bytes ++ thousandths_text number }
     ensures len { array_string_len text.new ≤ array_string_len text.old + 39 }
 {
@@ -80,8 +81,8 @@ fn push_thousandths<const ROOM: usize>(text: &mut ArrayString<ROOM>, number: u64
 
 /// Adds the text of a position, at most 12 bytes.
 #[tactic(auto, using(crate::proofs::Texts::position_text_is))]
-fn push_position<const ROOM: usize>(text: &mut ArrayString<ROOM>, position: &Position)
-    requires { array_string_len text.old + 12 ≤ ROOM }
+pub fn push_position(text: &mut Text, position: &Position)
+    requires { array_string_len text.old + 12 ≤ TEXT_ROOM }
     ensures bytes { text.new.bytes ≡ text.old.bytes ++ position_text position.now }
     ensures len { array_string_len text.new ≤ array_string_len text.old + 12 }
 {
@@ -89,19 +90,14 @@ fn push_position<const ROOM: usize>(text: &mut ArrayString<ROOM>, position: &Pos
     text.push_str(write_position(position).as_str());
 }
 
-/// Adds the share of exactly `k` rolls, unless it is zero.
-#[tactic(auto, using(crate::proofs::Parts::some_part, crate::proofs::Parts::pair_added))]
-fn push_share<N: Number, const ROOM: usize>(text: &mut ArrayString<ROOM>, shares: &N::Shares, k: u8)
-    requires few { k ≤ N.most }
-    requires are { N.are_shares shares.now }
-    requires room { array_string_len text.old + 2 * N.Part.most + 6 ≤ ROOM }
-    ensures part { (part : List ℕ) × IsSharePartOver N.whole (N.share shares.now k) k part
-        × (text.new.bytes ≡ text.old.bytes ++ part) }
-    ensures len { array_string_len text.new ≤ array_string_len text.old + 2 * N.Part.most + 6 }
+/// Adds the share of exactly `k` rolls: a space, `k`, a colon, and the share.
+#[tactic(auto, using(crate::proofs::Parts::pair_added))]
+pub fn push_share(text: &mut Text, share: WideFraction, k: u8)
+    requires few { k ≤ 33 }
+    requires room { array_string_len text.old + 122 ≤ TEXT_ROOM }
+    ensures bytes { text.new.bytes ≡ text.old.bytes ++ share_text k share }
+    ensures len { array_string_len text.new ≤ array_string_len text.old + 122 }
 {
-    let Some(share) = N::share(shares, k) else {
-        return;
-    };
     text.push_str(" ");
     text.push_str(Buffer::new().format(k));
     text.push_str(":");
@@ -109,8 +105,8 @@ fn push_share<N: Number, const ROOM: usize>(text: &mut ArrayString<ROOM>, shares
 }
 
 /// Adds the moves of a play, each after a space.
-fn push_play<const ROOM: usize>(text: &mut ArrayString<ROOM>, play: &Play)
-    requires { array_string_len text.old + 24 ≤ ROOM }
+pub fn push_play(text: &mut Text, play: &Play)
+    requires { array_string_len text.old + 24 ≤ TEXT_ROOM }
     ensures bytes { text.new.bytes
         ≡ text.old.bytes ++ flat_map (λ m. codes " " ++ move_text m) (moves_of play.now.items) }
     ensures len { array_string_len text.new ≤ array_string_len text.old + 24 }
@@ -122,17 +118,13 @@ fn push_play<const ROOM: usize>(text: &mut ArrayString<ROOM>, play: &Play)
     text.push_str(write_play(play).as_str());
 }
 
-/// Adds a result and its loss in rolls, as they stand in a list of moves after what is before them:
-/// a space, the position, a colon, and the loss.
-pub fn push_choice<D: Digits, const ROOM: usize>(
-    text: &mut ArrayString<ROOM>,
-    to: &Position,
-    loss: (D, D),
-)
-    requires { array_string_len text.old + 2 * D.most + 15 ≤ ROOM }
+/// Adds a result and its loss in rolls to a list of moves: a space, the position, a colon, and the
+/// loss.
+pub fn push_choice(text: &mut Text, to: &Position, loss: WideFraction)
+    requires { array_string_len text.old + 131 ≤ TEXT_ROOM }
     ensures bytes { text.new.bytes
-        ≡ text.old.bytes ++ result_text to.now (D.value loss.0) (D.value loss.1) }
-    ensures len { array_string_len text.new ≤ array_string_len text.old + 2 * D.most + 15 }
+        ≡ text.old.bytes ++ result_text to.now loss.numerator loss.denominator }
+    ensures len { array_string_len text.new ≤ array_string_len text.old + 131 }
 {
     text.push_str(" ");
     push_position(text, to);
@@ -141,8 +133,7 @@ pub fn push_choice<D: Digits, const ROOM: usize>(
 }
 
 /// Makes a text the word with which a list of moves begins.
-pub fn put_moves<const ROOM: usize>(text: &mut ArrayString<ROOM>)
-    requires { 5 ≤ ROOM }
+pub fn put_moves(text: &mut Text)
     ensures text { text.new.bytes ≡ codes "moves" }
     ensures len { array_string_len text.new ≤ 5 }
 {
@@ -150,18 +141,12 @@ pub fn put_moves<const ROOM: usize>(text: &mut ArrayString<ROOM>)
     text.push_str("moves");
 }
 
-/// Makes a text that of a mean and an effective pip count, which also stands there in thousandths.
-pub fn put_mean<D: Digits, const ROOM: usize>(
-    text: &mut ArrayString<ROOM>,
-    mean: (D, D),
-    epc: (D, D),
-    thousandths: u64,
-)
-    requires { 4 * D.most + 52 ≤ ROOM }
-    ensures text { text.new.bytes ≡ codes "mean " ++ fraction_text (D.value mean.0) (D.value mean.1)
-        ++ codes " epc " ++ fraction_text (D.value epc.0) (D.value epc.1) ++ codes " "
+/// Writes the text of a mean and an EPC, the latter also in thousandths.
+pub fn put_mean(text: &mut Text, mean: WideFraction, epc: WideFraction, thousandths: u64)
+    ensures text { text.new.bytes ≡ codes "mean " ++ fraction_text mean.numerator mean.denominator
+        ++ codes " epc " ++ fraction_text epc.numerator epc.denominator ++ codes " "
         ++ thousandths_text thousandths }
-    ensures len { array_string_len text.new ≤ 4 * D.most + 52 }
+    ensures len { array_string_len text.new ≤ 284 }
 {
     text.clear();
     text.push_str("mean ");
@@ -172,23 +157,30 @@ pub fn put_mean<D: Digits, const ROOM: usize>(
     push_thousandths(text, thousandths);
 }
 
-/// Makes a text that of the shares of no roll and of each number of rolls.
-pub fn put_dist<N: Number, const ROOM: usize>(text: &mut ArrayString<ROOM>, shares: &N::Shares)
-    requires are { N.are_shares shares.now }
-    requires room { 68 * N.Part.most + 208 ≤ ROOM }
-    ensures text { IsDistReplyOver N.whole N.most (N.share shares.now) text.new.bytes }
-    ensures len { array_string_len text.new ≤ 68 * N.Part.most + 208 }
+/// Makes a text the word with which a distribution begins.
+pub fn put_dist_word(text: &mut Text)
+    ensures text { text.new.bytes ≡ codes "dist" }
+    ensures len { array_string_len text.new ≤ 4 }
 {
     text.clear();
     text.push_str("dist");
-    for k in 0..N::share_count() {
-        push_share::<N, ROOM>(text, shares, k);
+}
+
+/// Makes a text that of the shares of 0 to 22 rolls.
+pub fn put_dist(text: &mut Text, spread: &Spread)
+    ensures text { IsDistReply (slice_index spread.now) text.new.bytes }
+    ensures len { array_string_len text.new ≤ 2810 }
+{
+    put_dist_word(text);
+    for k in 0..23 {
+        if spread.at(k) > 0 {
+            push_share(text, WideFraction::of(share(spread, k)), k);
+        }
     }
 }
 
-/// Makes a text that of a play and the position that it leads to, at most 44 bytes.
-pub fn put_play<const ROOM: usize>(text: &mut ArrayString<ROOM>, play: &Play, to: &Position)
-    requires { 44 ≤ ROOM }
+/// Writes the text of a play and its result, at most 44 bytes.
+pub fn put_play(text: &mut Text, play: &Play, to: &Position)
     ensures text { text.new.bytes ≡ codes "play"
         ++ flat_map (λ m. codes " " ++ move_text m)
         (moves_of play.now.items) ++ codes " to " ++ position_text to.now }
@@ -202,11 +194,10 @@ pub fn put_play<const ROOM: usize>(text: &mut ArrayString<ROOM>, play: &Play, to
 }
 
 /// Makes a text that of a loss.
-pub fn put_loss<D: Digits, const ROOM: usize>(text: &mut ArrayString<ROOM>, loss: (D, D))
-    requires { 2 * D.most + 6 ≤ ROOM }
+pub fn put_loss(text: &mut Text, loss: WideFraction)
     ensures text { text.new.bytes
-        ≡ codes "loss " ++ fraction_text (D.value loss.0) (D.value loss.1) }
-    ensures len { array_string_len text.new ≤ 2 * D.most + 6 }
+        ≡ codes "loss " ++ fraction_text loss.numerator loss.denominator }
+    ensures len { array_string_len text.new ≤ 122 }
 {
     text.clear();
     text.push_str("loss ");
@@ -214,8 +205,7 @@ pub fn put_loss<D: Digits, const ROOM: usize>(text: &mut ArrayString<ROOM>, loss
 }
 
 /// Makes a text that of a rank, at most 10 bytes.
-pub fn put_rank<const ROOM: usize>(text: &mut ArrayString<ROOM>, rank: u16)
-    requires { 10 ≤ ROOM }
+pub fn put_rank(text: &mut Text, rank: u16)
     ensures text { text.new.bytes ≡ codes "rank " ++ decimal rank }
     ensures len { array_string_len text.new ≤ 10 }
 {
@@ -225,8 +215,7 @@ pub fn put_rank<const ROOM: usize>(text: &mut ArrayString<ROOM>, rank: u16)
 }
 
 /// Makes a text that of a refusal, at most 16 bytes.
-pub fn put_refusal<const ROOM: usize>(text: &mut ArrayString<ROOM>, refusal: Refusal)
-    requires { 16 ≤ ROOM }
+pub fn put_refusal(text: &mut Text, refusal: Refusal)
     ensures text { text.new.bytes ≡ refusal_text (why refusal) }
     ensures len { array_string_len text.new ≤ 16 }
 {
@@ -240,20 +229,19 @@ pub fn put_refusal<const ROOM: usize>(text: &mut ArrayString<ROOM>, refusal: Ref
     });
 }
 
-/// Makes a text the line of a level, by the least and the greatest mean of its positions.
-pub fn put_level<D: Digits, const ROOM: usize>(
-    text: &mut ArrayString<ROOM>,
+/// Writes the line of a level with its least and greatest mean.
+pub fn put_level(
+    text: &mut Text,
     pips: u8,
     positions: u16,
-    least: (D, D),
-    greatest: (D, D),
+    least: WideFraction,
+    greatest: WideFraction,
 )
-    requires { 4 * D.most + 50 ≤ ROOM }
     ensures text { text.new.bytes ≡ codes "pips " ++ decimal pips ++ codes " positions "
         ++ decimal positions ++ codes " least "
-        ++ fraction_text (D.value least.0) (D.value least.1) ++ codes " greatest "
-        ++ fraction_text (D.value greatest.0) (D.value greatest.1) }
-    ensures len { array_string_len text.new ≤ 4 * D.most + 50 }
+        ++ fraction_text least.numerator least.denominator ++ codes " greatest "
+        ++ fraction_text greatest.numerator greatest.denominator }
+    ensures len { array_string_len text.new ≤ 282 }
 {
     text.clear();
     text.push_str("pips ");

@@ -6,20 +6,18 @@ ghost use Rattle.db_layout.specs.Writes.{AppendsPart};
 ghost use Rattle.query_text.specs.Texts.{choice_text, list_text, level_text, IsMeanText, IsTextOf};
 ghost use Rattle.query_text.specs.Held.{Takes};
 
-use crate::numbers::parts;
 use crate::reply::{Choice, Level, Reply};
 use crate::text::{
-    Text, push_choice, put_dist, put_level, put_loss, put_mean, put_moves, put_play, put_rank,
-    put_refusal,
+    TEXT_ROOM, Text, push_choice, put_dist, put_level, put_loss, put_mean, put_moves, put_play,
+    put_rank, put_refusal,
 };
-use arrayvec::ArrayString;
 use db_layout::{WriteFault, write_bytes};
-use fixed_fraction::{Fraction, Scaled, thousandths_of};
+use fixed_fraction::{Fraction, WideFraction, thousandths_of};
 use std::io::Write;
 
-/// Writes a reply and a line feed, in one call of the writer's `write` where it takes all that it
-/// is given, but for a long list of moves. Refused only where a `write` fails or takes no byte;
-/// then a prefix of the line was written.
+/// Writes a reply and a line feed. It takes one call of `write` if the writer takes all of it,
+/// except for a long list of moves. Refused only where a `write` fails or takes no byte; then a
+/// prefix of the line was written.
 pub fn write_reply<W: Write>(reply: &Reply, writer: &mut W) -> Result<(), WriteFault>
     ensures all { OnOk result ((text : List ℕ) × IsTextOf reply.now text
         × Appends (W.contents writer.old) (W.contents writer.new) (text ++ 10 ∷ [])) }
@@ -42,9 +40,9 @@ pub fn write_reply_by<W: Write>(
 {
     match reply {
         Reply::Mean { mean, epc } => put_fractions(text, *mean, *epc),
-        Reply::Dist(spread) => put_dist::<Scaled, 12288>(text, spread),
+        Reply::Dist(spread) => put_dist(text, spread),
         Reply::Play { play, to } => put_play(text, play, to),
-        Reply::Loss(loss) => put_loss(text, parts(*loss)),
+        Reply::Loss(loss) => put_loss(text, WideFraction::of(*loss)),
         Reply::Moves(choices) => return write_moves(text, choices.as_slice(), writer),
         Reply::Rank(rank) => put_rank(text, *rank),
         Reply::Refused(refusal) => put_refusal(text, *refusal),
@@ -55,10 +53,10 @@ pub fn write_reply_by<W: Write>(
 /// Makes a text that of a mean and an effective pip count, as fractions.
 fn put_fractions(text: &mut Text, mean: Fraction, epc: Fraction)
     ensures text { IsMeanText mean epc text.new.bytes }
-    ensures len { array_string_len text.new ≤ 4000 }
+    ensures len { array_string_len text.new ≤ 4036 }
 {
     let told = thousandths_of(epc.numerator(), epc.denominator());
-    put_mean(text, parts(mean), parts(epc), told);
+    put_mean(text, WideFraction::of(mean), WideFraction::of(epc), told);
 }
 
 /// Writes the line of a level and a line feed. Refused as `write_reply` is.
@@ -75,18 +73,15 @@ pub fn write_level<W: Write>(level: &Level, writer: &mut W) -> Result<(), WriteF
         &mut text,
         level.pips,
         level.positions,
-        parts(level.least),
-        parts(level.greatest),
+        WideFraction::of(level.least),
+        WideFraction::of(level.greatest),
     );
     write_line(&mut text, writer)
 }
 
 /// Writes a text and a line feed, which the text has room for.
-pub fn write_line<const ROOM: usize, W: Write>(
-    text: &mut ArrayString<ROOM>,
-    writer: &mut W,
-) -> Result<(), WriteFault>
-    requires { array_string_len text.old + 1 ≤ ROOM }
+pub fn write_line<W: Write>(text: &mut Text, writer: &mut W) -> Result<(), WriteFault>
+    requires { array_string_len text.old + 1 ≤ TEXT_ROOM }
     ensures all { OnOk result
         (Appends (W.contents writer.old) (W.contents writer.new) (text.old.bytes ++ 10 ∷ [])) }
     ensures part { OnErr result
@@ -114,8 +109,7 @@ fn write_moves<W: Write>(
     write_line(text, writer)
 }
 
-/// Adds a choice to the text that waits to be written, and writes that one first where there is
-/// no room.
+/// Adds a choice to the buffered text, which is written first if it is full.
 fn write_choice<W: Write>(
     text: &mut Text,
     choice: &Choice,
@@ -123,12 +117,12 @@ fn write_choice<W: Write>(
 ) -> Result<(), WriteFault>
     ensures all { OnOk result (Takes (W.contents writer.old) (W.contents writer.new)
         text.old.bytes text.new.bytes (choice_text choice.now)) }
-    ensures len { OnOk result (array_string_len text.new ≤ 4000) }
+    ensures len { OnOk result (array_string_len text.new ≤ 4036) }
     ensures part { OnErr result (AppendsPart (W.contents writer.old)
         (W.contents writer.new) text.old.bytes) }
 {
     make_room(text, writer)?;
-    push_choice(text, &choice.to, parts(choice.loss));
+    push_choice(text, &choice.to, WideFraction::of(choice.loss));
     Ok(())
 }
 
@@ -136,11 +130,11 @@ fn write_choice<W: Write>(
 fn make_room<W: Write>(text: &mut Text, writer: &mut W) -> Result<(), WriteFault>
     ensures all { OnOk result (Takes (W.contents writer.old)
         (W.contents writer.new) text.old.bytes text.new.bytes []) }
-    ensures len { OnOk result (array_string_len text.new + 95 ≤ 4000) }
+    ensures len { OnOk result (array_string_len text.new + 131 ≤ 4036) }
     ensures part { OnErr result (AppendsPart (W.contents writer.old)
         (W.contents writer.new) text.old.bytes) }
 {
-    if text.len() + 95 <= 4000 {
+    if text.len() + 131 <= 4036 {
         return Ok(());
     }
     write_bytes(text.as_str().as_bytes(), writer)?;

@@ -1,4 +1,4 @@
-use Rattle.race_model.specs.Queries.{no_query, of_too_many}
+use Rattle.race_model.specs.Prelude.{no_query, of_too_many}
 use Rattle.query_text.specs.Readings.{asked}
 use Rattle.query_text.proofs.AcceptedQueries.{accepted_query}
 use Rattle.query_text.proofs.refusals.accepted_query.Goals as goal

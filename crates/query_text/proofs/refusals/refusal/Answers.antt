@@ -1,6 +1,5 @@
 use Rattle.std.proofs.Common.{◌≤◌, ap, arith}
-use Rattle.race_model.specs.Positions.{pips}
-use Rattle.race_model.specs.Queries.{subject, of_over_bound, of_finished, of_no_result}
+use Rattle.race_model.specs.Prelude.{pips, subject, of_over_bound, of_finished, of_no_result}
 use Rattle.query_text.specs.Readings.{asked}
 use Rattle.query_text.proofs.refusals.refusal.Goals as goal
 

@@ -1,5 +1,4 @@
-use Rattle.std.proofs.Common.{◌≤◌, [], ◌++◌, take, codes}
-use Rattle.std.specs.Prelude.{flat_map}
+use Rattle.std.proofs.Common.{◌≤◌, [], ◌++◌, take, codes, flat_map}
 use Rattle.arrayvec.specs.ArrayString.{array_string_len}
 use Rattle.query_text.specs.Texts.{choice_text}
 use Rattle.query_text.specs.Held.{Takes}
@@ -10,5 +9,5 @@ abbrev pub invariant-loop-choice : goal.invariant-loop-choice
 invariant-loop-choice g l = record {
   taken : Takes (g.W.Write.contents l.initial.writer) (g.W.Write.contents l.writer) [] l.text.bytes
       (codes "moves" ++ flat_map choice_text (take l.choice-index l.choices));
-  len : array_string_len l.text ≤ 4000;
+  len : array_string_len l.text ≤ 4036;
 }
