@@ -1,19 +1,12 @@
 -- The text of what a line is answered with is the reply to the line.
-use Rattle.std.proofs.Common.{◌≡◌, ℕ, ◌<◌, List, [], ◌∷◌, ◌++◌, length, get_or, map, codes}
-use Rattle.std.proofs.Common.{Contains, refl, ap, sym, subst, ◌∙◌, arith}
-use Rattle.std.specs.Prelude.{decimal, slice_index, flat_map}
+use Rattle.std.proofs.Common.{◌≡◌, ℕ, ◌<◌, List, [], ◌∷◌, ◌++◌, length, get_or, map, codes, Contains, refl, ap, sym}
+use Rattle.std.proofs.Common.{subst, ◌∙◌, arith, decimal, slice_index, flat_map}
 use Rattle.std.specs.List.{concat}
 use Rattle.std.proofs.lemmas.List.{length-map, get_or-map}
 use Rattle.std.proofs.lemmas.List.Elements.{All-contains_itself}
-use Rattle.race_model.specs.Positions.{Board, IsPosition, finished}
-use Rattle.race_model.specs.Dice.{Throw}
-use Rattle.race_model.specs.Plays.{Legal}
-use Rattle.race_model.specs.Files.{bound_of, spread}
-use Rattle.race_model.specs.Losses.{loss}
-use Rattle.race_model.specs.Queries.{mean_query, dist_query, play_query, loss_query, moves_query}
-use Rattle.race_model.specs.Queries.{rank_query, IsAccepted}
-use Rattle.race_model.specs.LocalEquations.{whole}
-use Rattle.race_model.specs.Replies.{IsPlayReply, IsChoicePart, IsMovesReply, IsReply, answered, refused, fraction_text}
+use Rattle.race_model.specs.Prelude.{Board, IsPosition, finished, Throw, Legal, bound_of, spread, loss, mean_query}
+use Rattle.race_model.specs.Prelude.{dist_query, play_query, loss_query, moves_query, rank_query, IsAccepted, whole}
+use Rattle.race_model.specs.Prelude.{IsPlayReply, IsChoicePart, IsMovesReply, IsReply, answered, refused, fraction_text}
 use Rattle.query_text.specs.declared.reply.Choice.{Choice}
 use Rattle.query_text.specs.declared.reply.Reply.{Reply}
 use Rattle.query_text.specs.declared.reply.Reply.TheVariants.{Mean, Dist, Play, Loss, Moves, Rank, Refused}
@@ -27,7 +20,7 @@ play_position : (bound : ℕ) (line : List ℕ) (x : Board) (v : Throw) → IsAc
     (play_query x v) → IsPosition x
 play_position bound line x v is = record { six = is.query.2.six; few = omega (arith, is.few) }
 
--- .. and that of a list of moves
+-- the position that an accepted query of a list of moves is about
 moves_position : (bound : ℕ) (line : List ℕ) (x : Board) (v : Throw) → IsAccepted bound line
     (moves_query x v) → IsPosition x
 moves_position bound line x v is = record { six = is.query.2.six; few = omega (arith, is.few) }

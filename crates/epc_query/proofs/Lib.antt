@@ -5,9 +5,10 @@ pub mod Runs
 pub mod PipCounts
 pub mod UsedReads
 pub mod Books
+pub mod FileBooks
 pub mod Known
 pub mod BoardKnown
-pub mod LentBytes
 pub mod Counts
 pub mod Lists
 pub mod Sizes
+pub mod Longs

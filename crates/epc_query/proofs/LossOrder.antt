@@ -8,12 +8,8 @@ use Rattle.std.proofs.lemmas.Bool.Decides.{nat_tests}
 use Rattle.std.proofs.lemmas.List.{take_more, get_or-take, get_or_default, get_or-map, length-map, length-take-le}
 use Rattle.std.proofs.lemmas.List.Elements.{Contains-append_left, Contains-push, Contains-push_cases}
 use Rattle.std.proofs.lemmas.List.Elements.{All-contains, All-contains_itself}
-use Rattle.race_model.specs.Positions.{Board, IsPosition, finished}
-use Rattle.race_model.specs.Dice.{Throw}
-use Rattle.race_model.specs.Plays.{Legal}
-use Rattle.race_model.specs.Ranks.{rank, comes_first, is_before}
-use Rattle.race_model.specs.Books.{Book}
-use Rattle.race_model.specs.Losses.{loss_in, IsListedBeforeIn, IsMoveListIn}
+use Rattle.race_model.specs.Prelude.{Board, IsPosition, finished, Throw, Legal, rank, comes_first, is_before, Book}
+use Rattle.race_model.specs.Prelude.{loss_in, IsListedBeforeIn, IsMoveListIn}
 use Rattle.race_model.proofs.Ranks.RankOrder.{rank_apart}
 use Rattle.legal_plays.specs.RankOrder.{IsInRankOrder}
 use Rattle.epc_query.specs.Choices.{ComesFirst, IsByLoss, result_of}
@@ -23,60 +19,60 @@ order : (m n : ℕ) → (m < n) ⊎ ((m ≡ n) ⊎ (n < m))
 order m n = grind arith
 
 -- what comes first comes before what the second one comes before
-first_trans : {N : Type 0} (number : N → ℕ) (a b c : RankedChoice N) → ComesFirst number a b →
-    ComesFirst number b c → ComesFirst number a c
-first_trans number a b c first then =
-    by (number a.loss) (number b.loss) (number c.loss) a.rank b.rank c.rank first then
+first_trans : (a b c : RankedChoice) → ComesFirst a b →
+    ComesFirst b c → ComesFirst a c
+first_trans a b c first then =
+    by a.loss b.loss c.loss a.rank b.rank c.rank first then
   where
     by : (l m n r s t : ℕ) → (l < m) ⊎ ((l ≡ m) × (r < s)) → (m < n) ⊎ ((m ≡ n) × (s < t))
         → (l < n) ⊎ ((l ≡ n) × (r < t))
     by l m n r s t first then = grind arith
 
 -- of two choices of different ranks one comes first
-first_or : {N : Type 0} (number : N → ℕ) (a b : RankedChoice N) → (¬ ComesFirst number a b) →
-    a.rank ≢ b.rank → ComesFirst number b a
-first_or number a b never apart = by (number a.loss) (number b.loss) a.rank b.rank never apart
+first_or : (a b : RankedChoice) → (¬ ComesFirst a b) →
+    a.rank ≢ b.rank → ComesFirst b a
+first_or a b never apart = by a.loss b.loss a.rank b.rank never apart
   where
     by : (l m r s : ℕ) → (¬ ((l < m) ⊎ ((l ≡ m) × (r < s)))) → r ≢ s → (m < l) ⊎ ((m ≡ l) × (s < r))
     by l m r s never apart = grind arith
 
 -- a choice in its place
-module _ {N : Type 0} (number : N → ℕ) (choices : List (RankedChoice N)) (place : ℕ)
-    (choice : RankedChoice N)
-    (fits : place ≤ length choices) (ordered : IsByLoss number choices)
+module _ (choices : List RankedChoice) (place : ℕ)
+    (choice : RankedChoice)
+    (fits : place ≤ length choices) (ordered : IsByLoss choices)
     (fresh : All (λ other. other.rank ≢ choice.rank) choices)
-    (before : (k : ℕ) (d : RankedChoice N) → k < place
-    → ComesFirst number (get_or choices k d) choice)
-    (after : (d : RankedChoice N) → place < length choices →
-    ¬ ComesFirst number (get_or choices place d) choice)
+    (before : (k : ℕ) (d : RankedChoice) → k < place
+    → ComesFirst (get_or choices k d) choice)
+    (after : (d : RankedChoice) → place < length choices →
+    ¬ ComesFirst (get_or choices place d) choice)
   where
     -- it comes before those from its place on
-    precedes : (k : ℕ) (d : RankedChoice N) → place ≤ k → k < length choices →
-        ComesFirst number choice (get_or choices k d)
+    precedes : (k : ℕ) (d : RankedChoice) → place ≤ k → k < length choices →
+        ComesFirst choice (get_or choices k d)
     precedes k d from low = elim (order place k) [
-      | inl more ↦ first_trans number choice (get_or choices place d) (get_or choices k d)
+      | inl more ↦ first_trans choice (get_or choices place d) (get_or choices k d)
           (next (omega arith)) (ordered.pairs place k d more low)
       | inr same ↦ elim same [
-        | inl one ↦ subst (λ n. ComesFirst number choice (get_or choices n d)) one
+        | inl one ↦ subst (λ n. ComesFirst choice (get_or choices n d)) one
             (next (omega arith))
         | inr less ↦ absurd (omega arith)
       ]
     ]
       where
-        next : place < length choices → ComesFirst number choice (get_or choices place d)
-        next low = first_or number (get_or choices place d) choice (after d low) (fresh place d low)
+        next : place < length choices → ComesFirst choice (get_or choices place d)
+        next low = first_or (get_or choices place d) choice (after d low) (fresh place d low)
 
-    below : (k : ℕ) (d : RankedChoice N) → k < place →
+    below : (k : ℕ) (d : RankedChoice) → k < place →
         get_or (insert choices place choice) k d ≡ get_or choices k d
     below k d low = get_or-insert_below choices place choice d k low fits
 
-    here : (k : ℕ) (d : RankedChoice N) → place ≡ k
+    here : (k : ℕ) (d : RankedChoice) → place ≡ k
         → get_or (insert choices place choice) k d ≡ choice
     here k d same =
         subst (λ n. get_or (insert choices place choice) n d ≡ choice) same
         (get_or-insert_at choices place choice d fits)
 
-    above : (k : ℕ) (d : RankedChoice N) → place < k →
+    above : (k : ℕ) (d : RankedChoice) → place < k →
         get_or (insert choices place choice) k d ≡ get_or choices (k - 1) d
     above k d more =
         subst (λ n. get_or (insert choices place choice) n d ≡ get_or choices (k - 1) d)
@@ -85,69 +81,69 @@ module _ {N : Type 0} (number : N → ℕ) (choices : List (RankedChoice N)) (pl
         back : (k : ℕ) → place < k → k - 1 + 1 ≡ k
         back k more = omega arith
 
-    pub inserted : IsByLoss number (insert choices place choice)
+    pub inserted : IsByLoss (insert choices place choice)
     inserted = record { pairs = pairs }
       where
-        pairs : (i j : ℕ) (d : RankedChoice N) → i < j → j < length (insert choices place choice) →
-            ComesFirst number (get_or (insert choices place choice) i d)
+        pairs : (i j : ℕ) (d : RankedChoice) → i < j → j < length (insert choices place choice) →
+            ComesFirst (get_or (insert choices place choice) i d)
             (get_or (insert choices place choice) j d)
         pairs i j d less low =
             let long = length-insert choices place choice fits in
             elim (order place j) [
               | inr upper ↦ elim upper [
                 | inl same ↦
-                    subst₂ (ComesFirst number) (sym (below i d (omega arith))) (sym (here j d same))
+                    subst₂ (ComesFirst) (sym (below i d (omega arith))) (sym (here j d same))
                     (before i d (omega arith))
                 | inr under ↦
-                    subst₂ (ComesFirst number) (sym (below i d (omega arith)))
+                    subst₂ (ComesFirst) (sym (below i d (omega arith)))
                     (sym (below j d under))
                     (ordered.pairs i j d less (omega arith))
               ]
               | inl past ↦ elim (order place i) [
                 | inl more ↦
-                    subst₂ (ComesFirst number) (sym (above i d more)) (sym (above j d past))
+                    subst₂ (ComesFirst) (sym (above i d more)) (sym (above j d past))
                     (ordered.pairs (i - 1) (j - 1) d (omega arith) (omega arith))
                 | inr rest ↦ elim rest [
                   | inl same ↦
-                      subst₂ (ComesFirst number) (sym (here i d same)) (sym (above j d past))
+                      subst₂ (ComesFirst) (sym (here i d same)) (sym (above j d past))
                       (precedes (j - 1) d (omega arith) (omega arith))
                   | inr under ↦
-                      subst₂ (ComesFirst number) (sym (below i d under)) (sym (above j d past))
+                      subst₂ (ComesFirst) (sym (below i d under)) (sym (above j d past))
                       (ordered.pairs i (j - 1) d (omega arith) (omega arith))
                 ]
               ]
             ]
 
 -- the choices are those of the positions of a list
-pub record AreOf {N : Type 0} (found : List Board) (choices : List (RankedChoice N)) : Type 0 where
-  pub from : (c : RankedChoice N) → Contains choices c →
+pub record AreOf (found : List Board) (choices : List RankedChoice) : Type 0 where
+  pub from : (c : RankedChoice) → Contains choices c →
       Contains found c.to × (c.rank ≡ rank c.to)
-  pub all : (y : Board) → Contains found y → (c : RankedChoice N) × Contains choices c × (c.to ≡ y)
+  pub all : (y : Board) → Contains found y → (c : RankedChoice) × Contains choices c × (c.to ≡ y)
 
 -- no choice is in order
-pub none_by_loss : {N : Type 0} (number : N → ℕ) → IsByLoss number []
-none_by_loss number = record { pairs = λ i j d less low. absurd (omega (arith, low)) }
+pub none_by_loss : IsByLoss []
+none_by_loss = record { pairs = λ i j d less low. absurd (omega (arith, low)) }
 
--- .. and is that of no position
-pub none_of : {N : Type 0} → AreOf {N = N} [] []
+-- no choice is that of no position
+pub none_of : AreOf [] []
 none_of = record {
   from = λ c held. absurd (omega (arith, held.1));
   all = λ y held. absurd (omega (arith, held.1));
 }
 
 -- with one position more
-pub one_more_of : {N : Type 0} (found : List Board) (i : ℕ) (choices more : List (RankedChoice N))
-    (choice : RankedChoice N) → i < length found → choice.to ≡ get_or found i choice.to →
+pub one_more_of : (found : List Board) (i : ℕ) (choices more : List RankedChoice)
+    (choice : RankedChoice) → i < length found → choice.to ≡ get_or found i choice.to →
     choice.rank ≡ rank choice.to →
-    ((c : RankedChoice N) → Contains more c ↔ (Contains choices c ⊎ (c ≡ choice))) →
+    ((c : RankedChoice) → Contains more c ↔ (Contains choices c ⊎ (c ≡ choice))) →
     AreOf (take i found) choices → AreOf (take (i + 1) found) more
-one_more_of {N = N} found i choices more choice low at ranked members were =
+one_more_of found i choices more choice low at ranked members were =
     record { from = from; all = all }
   where
     longer : take (i + 1) found ≡ take i found ++ choice.to ∷ []
     longer = take_more found i choice.to low ∙ ap (λ y. take i found ++ y ∷ []) (sym at)
 
-    from : (c : RankedChoice N) → Contains more c →
+    from : (c : RankedChoice) → Contains more c →
         Contains (take (i + 1) found) c.to × (c.rank ≡ rank c.to)
     from c held = elim ((members c).0 held) [
       | inl old ↦ let was = were.from c old in (
@@ -156,7 +152,7 @@ one_more_of {N = N} found i choices more choice low at ranked members were =
         was.1,
       )
       | inr new ↦ subst
-          (λ (c : RankedChoice N). Contains (take (i + 1) found) c.to × (c.rank ≡ rank c.to))
+          (λ (c : RankedChoice). Contains (take (i + 1) found) c.to × (c.rank ≡ rank c.to))
           (sym new) (
             subst (λ ys. Contains ys choice.to) (sym longer)
                 (Contains-push (take i found) choice.to),
@@ -165,7 +161,7 @@ one_more_of {N = N} found i choices more choice low at ranked members were =
     ]
 
     all : (y : Board) → Contains (take (i + 1) found) y →
-        (c : RankedChoice N) × Contains more c × (c.to ≡ y)
+        (c : RankedChoice) × Contains more c × (c.to ≡ y)
     all y held = elim (Contains-push_cases (take i found) choice.to y
         (subst (λ ys. Contains ys y) longer held)) [
           | inl old ↦ let was = were.all y old in
@@ -192,10 +188,10 @@ pub not_before : (x : Board) → IsTrue (is_before x x) → ⊥
 not_before x before = grind (arith, nat_tests, never_before x)
 
 -- the next of positions in the order of ranks has a rank of its own
-pub fresh_rank : {N : Type 0} (found : List Board) (i : ℕ) (choices : List (RankedChoice N))
+pub fresh_rank : (found : List Board) (i : ℕ) (choices : List RankedChoice)
     (y : Board) → ((z : Board) → Contains found z → IsPosition z) → IsInRankOrder found →
     i < length found → y ≡ get_or found i y → AreOf (take i found) choices →
-    All (λ (c : RankedChoice N). c.rank ≢ rank y) choices
+    All (λ (c : RankedChoice). c.rank ≢ rank y) choices
 fresh_rank found i choices y positions ordered low at are = λ k d inside same.
     let held = All-contains_itself choices k d inside in
     let was = are.from (get_or choices k d) held in
@@ -212,12 +208,12 @@ fresh_rank found i choices y positions ordered low at are = λ k d inside same.
     (ordered.pairs was.0.0 i other earlier low))
 
 -- in order they are the list of moves
-pub list_of : {N : Type 0} (number : N → ℕ) (nothing : RankedChoice N) (b : Book) (x : Board)
-    (v : Throw) (found : List Board) (choices : List (RankedChoice N)) →
-    ((y : Board) → Contains found y ↔ Legal x v y) → IsByLoss number choices →
-    AreOf found choices → All (λ choice. number choice.loss ≡ loss_in b x v choice.to) choices →
+pub list_of : (nothing : RankedChoice) (b : Book) (x : Board)
+    (v : Throw) (found : List Board) (choices : List RankedChoice) →
+    ((y : Board) → Contains found y ↔ Legal x v y) → IsByLoss choices →
+    AreOf found choices → All (λ choice. choice.loss ≡ loss_in b x v choice.to) choices →
     IsMoveListIn b x v (map result_of choices)
-list_of number nothing b x v found choices legal ordered are losses =
+list_of nothing b x v found choices legal ordered are losses =
     record { members = members; ordered = by_loss }
   where
     members : (y : Board) → Contains (map result_of choices) y ↔ Legal x v y

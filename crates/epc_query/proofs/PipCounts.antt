@@ -1,16 +1,10 @@
 -- The ranks of the positions of one pip count, and the means of some ranks.
 use Rattle.std.proofs.Common.{◌≡◌, ◌↔◌, ◌⊎◌, inl, inr, ℕ, zero, suc, ◌+◌, ◌*◌, ◌/◌, ◌%◌, ◌<◌, ◌≤◌, min, max, List, []}
-use Rattle.std.proofs.Common.{◌∷◌, ◌++◌, codes, decimal, refl, ap, sym, subst, ◌∙◌, arith, below_more}
+use Rattle.std.proofs.Common.{◌∷◌, refl, ap, sym, subst, ◌∙◌, arith, below_more}
 use Rattle.std.proofs.lemmas.Bool.{cases_lt}
-use Rattle.std.proofs.Math.Path.{ap₂}
-use Rattle.race_model.specs.Positions.{Board, IsPosition, pips}
-use Rattle.race_model.specs.Ranks.{rank, at_rank, count_to, first_of}
-use Rattle.race_model.specs.Files.{mean_at, book_of}
-use Rattle.race_model.specs.Books.{Book, mean_in}
-use Rattle.race_model.specs.Levels.{IsLevel, IsLevelLine, IsLevelIn}
-use Rattle.query_text.specs.declared.reply.Level.{Level}
-use Rattle.query_text.specs.Texts.{ratio_text, level_text}
-use Rattle.epc_query.specs.LevelMeans.{AreMeansOf, HasLevel}
+use Rattle.race_model.specs.Prelude.{Board, IsPosition, pips, rank, at_rank, count_to, first_of, mean_at, book_of, Book}
+use Rattle.race_model.specs.Prelude.{mean_in, IsLevel, IsLevelIn}
+use Rattle.epc_query.specs.LevelMeans.{AreMeansOf}
 
 -- some position has this pip count
 pub some_position : (p : ℕ) → p ≤ 90 → (x : Board) × IsPosition x × (pips x ≡ p)
@@ -170,7 +164,7 @@ module _ (found : (x : Board) → IsPosition x → at_rank (rank x) ≡ x)
           let many = not_fewer p r first last in
           (at_rank r, position r, omega arith, ap b.means (under p r last).0 ∙ is)
 
-  -- .. also by a file
+  -- the means of the ranks of a pip count by a file are those of its positions
   pub level_means : (f : List ℕ) (p least greatest : ℕ) → p ≤ 90 → AreMeansOf (mean_at f)
       (first_of p) (count_to p) least greatest → IsLevel f p least greatest
   level_means f p least greatest low are =
@@ -181,32 +175,3 @@ module _ (found : (x : Board) → IsPosition x → at_rank (rank x) ≡ x)
         greatest_reached = is.greatest_reached;
         none_over = is.none_over;
       }
-
--- the text of a level is its line
-pub level_line : (f : List ℕ) (p : ℕ) (level : Level) → HasLevel f p level
-    → IsLevelLine f p (level_text level)
-level_line f p level is = record {
-  least = is.least;
-  greatest = is.greatest;
-  level = is.means;
-  least_text = ratio_text level.least;
-  least_is = record {
-    numerator = level.least.numerator;
-    denominator =
-        level.least.denominator;
-    lowest = is.least_is;
-    written = refl;
-  };
-  greatest_text = ratio_text level.greatest;
-  greatest_is = record {
-    numerator = level.greatest.numerator;
-    denominator =
-        level.greatest.denominator;
-    lowest = is.greatest_is;
-    written = refl;
-  };
-  written = ap₂
-      (λ m n. codes "pips " ++ decimal m ++ codes " positions " ++ decimal n ++ codes " least "
-      ++ ratio_text level.least ++ codes " greatest "
-      ++ ratio_text level.greatest) is.pips is.positions;
-}

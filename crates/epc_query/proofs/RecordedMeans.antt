@@ -1,10 +1,7 @@
 -- The means that a database records, and why one is not read.
 use Rattle.std.proofs.Common.{◌≡◌, ℕ, ◌<◌, ◌≤◌, ◌↔◌, List, Result, Err, refl, ap, arith}
-use Rattle.race_model.specs.Positions.{Board, IsPosition, pips}
-use Rattle.race_model.specs.Dice.{Throw}
-use Rattle.race_model.specs.Files.{bound_of, mean, mean_at, play}
-use Rattle.race_model.specs.LocalEquations.{recorded}
-use Rattle.race_model.specs.RightFiles.{IsRightDatabase}
+use Rattle.race_model.specs.Prelude.{Board, IsPosition, pips, Throw, bound_of, mean, mean_at, play, recorded}
+use Rattle.race_model.specs.Prelude.{IsRightDatabase}
 use Rattle.certificate.specs.declared.query_fault.QueryFault.{QueryFault}
 use Rattle.certificate.specs.declared.query_fault.QueryFault.TheVariants.{OverBound, Finished, NotLegal, Memory, Read}
 use Rattle.certificate.specs.QueryFaults.{RefusesNumbers}

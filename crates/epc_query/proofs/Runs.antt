@@ -7,23 +7,17 @@ use Rattle.std.proofs.lemmas.List.{append-nil, take-append-le, take_all, length-
 use Rattle.std.proofs.lemmas.List.{get_or_push, length_push, take_more, take-append-drop, get_or-drop, length-drop}
 use Rattle.std.proofs.Math.Seq.{take-append-add, take-add}
 use Rattle.std.proofs.lemmas.Bool.{cases_lt}
-use Rattle.race_model.specs.Queries.{Query, IsQuery, Refusal, IsRefused, no_query, of_too_many}
-use Rattle.race_model.specs.Queries.{of_over_bound, of_finished, of_no_result}
-use Rattle.race_model.specs.Books.{Book}
-use Rattle.race_model.specs.Replies.{IsReplyIn, answered, refused}
+use Rattle.race_model.specs.Prelude.{Query, IsQuery, Refusal, IsRefused, no_query, of_too_many, of_over_bound}
+use Rattle.race_model.specs.Prelude.{of_finished, of_no_result, Book, IsReplyIn, answered, refused, pieces, rest_of}
+use Rattle.race_model.specs.Prelude.{without_return, whole_lines, last_line, lines_of, HasNoFeed}
 use Rattle.std.proofs.lemmas.List.Elements.{All-head, All-tail}
-use Rattle.race_model.specs.InputLines.{pieces, rest_of, without_return, whole_lines, last_line, lines_of, HasNoFeed}
 use Rattle.db_layout.specs.Writes.{AppendsPart}
-use Rattle.db_layout.proofs.Known.{appends_none, appends_kept, appends_twice}
+use Rattle.db_layout.proofs.Known.{appends_kept, appends_twice}
 use Rattle.epc_query.specs.declared.run_fault.RunFault.{RunFault}
 use Rattle.epc_query.specs.declared.run_fault.RunFault.TheVariants.{Read, Write, Table, Memory, Turns}
 use Rattle.epc_query.specs.Runs.{AreReplies, HasReplies, HasPart, IsMovesLine, IsRecordsLine}
 use Rattle.epc_query.specs.Runs.{IsStoppedAt, IsRunStopped, IsFirstFeed, IsAnswered}
 use Rattle.query_text.proofs.Held.{appends_same, part_after, part_all}
-
--- no replies
-pub no_replies : (f : Book) (old : Option (List ℕ)) → HasReplies f [] old old
-no_replies f old = record { text = []; replies = refl; written = appends_none old }
 
 -- the reply to one line
 pub one_reply : (f : Book) (line reply : List ℕ) (old new : Option (List ℕ))
@@ -32,7 +26,7 @@ pub one_reply : (f : Book) (line reply : List ℕ) (old new : Option (List ℕ))
 one_reply f line reply old new is h =
     record { text = reply; replies = (reply, [], is, refl, sym (append-nil reply)); written = h }
 
--- .. and a prefix of it
+-- a prefix of the reply to one line
 pub one_part : (f : Book) (line reply : List ℕ) (old new : Option (List ℕ))
     → IsReplyIn f line reply
     → AppendsPart old new reply → HasPart f (line ∷ []) old new
@@ -220,7 +214,7 @@ rest_more other done (c ∷ more) none =
           ∙ append_assoc (rest_of done) (c ∷ []) more,
     )
 
--- .. and are kept
+-- bytes without a line feed are kept
 pub bytes_kept : (f : Book) (done : List ℕ) (start now : Option (List ℕ))
     (kept new more : List ℕ)
     → IsAnswered f done start now kept
@@ -364,7 +358,7 @@ module _ (short : (line : List ℕ) (q : Query) → IsQuery line q → length li
         ap length lines ∙ length_push (whole_lines done) line,
       )
 
-  -- .. or stopped there
+  -- the answers stopped at the line that a line feed ends
   pub line_stopped : (f : Book) (done : List ℕ) (start mid new : Option (List ℕ)) (kept : List ℕ)
       (fault : RunFault) → IsAnswered f done start mid kept
       → IsStoppedAt f (without_return kept ∷ []) mid new fault
@@ -395,7 +389,7 @@ module _ (short : (line : List ℕ) (q : Query) → IsQuery line q → length li
         ap length lines ∙ length_push (whole_lines done) line,
       )
 
-  -- .. or stopped there
+  -- the answers stopped at the last line
   pub last_stopped : (f : Book) (done : List ℕ) (start mid new : Option (List ℕ)) (kept : List ℕ)
       (fault : RunFault) → IsAnswered f done start mid kept → 0 < length kept
       → IsStoppedAt f (kept ∷ []) mid new fault → IsStoppedAt f (lines_of done) start new fault
@@ -405,17 +399,6 @@ module _ (short : (line : List ℕ) (q : Query) → IsQuery line q → length li
       subst (λ ls. IsStoppedAt f ls start new fault) (sym (last_is done kept is.held some))
       (stopped_after f (whole_lines done) line start mid new fault is.replies
       (stopped_as f (take 130 line) line mid new fault (kept_rest f line) here))
-
--- where nothing is kept there is no last line
-pub no_last : (f : Book) (done : List ℕ) (start now : Option (List ℕ)) (kept : List ℕ)
-    → IsAnswered f done start now kept → length kept ≡ 0
-    → HasReplies f (lines_of done) start now
-    × (length (lines_of done) ≡ length (whole_lines done) + 0)
-no_last f done start now kept is none =
-    let lines = none_left done kept is.held none in (
-      subst (λ ls. HasReplies f ls start now) (sym lines) is.replies,
-      omega (arith, ap length lines),
-    )
 
 -- the first bytes of a chunk, and those after them
 pub chunk_parts : (done chunk : List ℕ) (n : ℕ)
@@ -437,7 +420,7 @@ piece_next chunk start place is =
     within : start + place < length chunk
     within = omega (arith, is.within, length-drop start chunk)
 
--- .. so that what was read before grows by the piece and its line feed
+-- what was read before grows by the piece and its line feed
 pub piece_joined : (done chunk : List ℕ) (start place : ℕ) → IsFirstFeed (drop start chunk) place
     → ((done ++ take start chunk) ++ take place (drop start chunk)) ++ 10 ∷ []
     ≡ done ++ take (start + place + 1) chunk
@@ -466,7 +449,7 @@ stopped_before f done more all later start now fault e cut stopped =
     (sym (ap (map without_return) cut ∙ map-append without_return (pieces done) later))
     (stopped_longer f (whole_lines done) (map without_return later) start now fault stopped))
 
--- .. and all lines of it
+-- what stopped the first bytes of an input stops all lines of it
 pub stopped_in : (f : Book) (done more all : List ℕ) (later : List (List ℕ))
     (start now : Option (List ℕ))
     (fault : RunFault) → done ++ more ≡ all

@@ -2,9 +2,7 @@
 -- all sequences of k throws at most all end its game.
 use Rattle.std.proofs.Common.{◌≡◌, ℕ, zero, suc, ◌+◌, ◌*◌, ◌^◌, ◌≤◌, ap, ◌∙◌, arith}
 use Rattle.std.proofs.Math.Nat.{pow-succ', one-le-pow}
-use Rattle.race_model.specs.Positions.{Board}
-use Rattle.race_model.specs.Strategies.{Strategy, stop, turn, total_over, IsLeastIn}
-use Rattle.race_model.specs.Endings.{endings}
+use Rattle.race_model.specs.Prelude.{Board, Strategy, stop, turn, total_over, IsLeastIn, endings}
 use Rattle.race_model.proofs.RightFiles.Bounded.{throws_at_most}
 use Rattle.race_model.proofs.Strategies.Histories.{over-none, total_over-over, total_over-turn}
 use Rattle.race_model.proofs.Strategies.Totals.{total_over-stop}
@@ -29,7 +27,7 @@ total_over-most (suc m) (turn to next) =
     more : (m p q : ℕ) → q ≡ 36 * p → suc m * q ≡ q + 36 * (m * p)
     more m p q e = ap (λ n. suc m * n) e ∙ omega (arith, e)
 
--- .. and so the least of them
+-- the least total over all sequences of m throws
 pub least_in-most : (m : ℕ) (x : Board) (t : ℕ) → IsLeastIn m x t → t ≤ m * 36 ^ m
 least_in-most m x t least =
     omega (arith, total_over-most m least.reached.0, least.reached.2)

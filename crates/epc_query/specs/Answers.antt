@@ -1,16 +1,8 @@
--- What a reply says of a file and a line. Source: this project's profile.
+-- What a reply says of a file and a line.
 use Rattle.std.specs.Prelude.{◌≡◌, ℕ, ◌≤◌, List, map, slice_index, All}
-use Rattle.race_model.specs.Positions.{Board}
-use Rattle.race_model.specs.Dice.{Throw}
-use Rattle.race_model.specs.Plays.{Legal}
-use Rattle.race_model.specs.Ranks.{rank}
-use Rattle.race_model.specs.Files.{bound_of, mean, spread}
-use Rattle.race_model.specs.LocalEquations.{whole, recorded}
-use Rattle.race_model.specs.Fractions.{IsFraction, IsMean, IsEffectivePips}
-use Rattle.race_model.specs.FirstPlays.{IsFirstPlay}
-use Rattle.race_model.specs.Losses.{loss, IsMoveList}
-use Rattle.race_model.specs.Queries.{mean_query, dist_query, play_query, loss_query, moves_query}
-use Rattle.race_model.specs.Queries.{rank_query, IsRefused, IsAccepted}
+use Rattle.race_model.specs.Prelude.{Board, Throw, Legal, rank, bound_of, mean, spread, whole, recorded, IsFraction}
+use Rattle.race_model.specs.Prelude.{IsMean, IsEffectivePips, IsFirstPlay, loss, IsMoveList, mean_query, dist_query}
+use Rattle.race_model.specs.Prelude.{play_query, loss_query, moves_query, rank_query, IsRefused, IsAccepted}
 use Rattle.legal_plays.specs.MoveLists.{moves_of}
 use Rattle.query_text.specs.declared.reply.Choice.{Choice}
 use Rattle.query_text.specs.declared.reply.Reply.{Reply}

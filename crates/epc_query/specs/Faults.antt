@@ -1,13 +1,11 @@
--- When a query is refused, by a database of a bound. Source: this project's profile.
+-- When a query is refused, by a database of a bound.
 use Rattle.std.specs.Prelude.{ℕ, ◌<◌, ◌≤◌, List}
-use Rattle.race_model.specs.Positions.{pips}
-use Rattle.race_model.specs.Queries.{Query, mean_query, dist_query, play_query, loss_query}
-use Rattle.race_model.specs.Queries.{moves_query, rank_query, subject, AsksOfFinished, HasResult}
-use Rattle.race_model.specs.Queries.{IsRefused, IsAccepted}
+use Rattle.race_model.specs.Prelude.{pips, Query, mean_query, dist_query, play_query, loss_query, moves_query}
+use Rattle.race_model.specs.Prelude.{rank_query, subject, AsksOfFinished, HasResult, IsRefused, IsAccepted}
 use Rattle.certificate.specs.declared.query_fault.QueryFault.{QueryFault}
 use Rattle.certificate.specs.declared.query_fault.QueryFault.TheVariants.{OverBound, Finished, NotLegal, Memory, Read}
-use Rattle.epc_query.specs.declared.answer.Stop.{Stop}
-use Rattle.epc_query.specs.declared.answer.Stop.TheVariants.{Memory as NoMemory, Read as NoRead}
+use Rattle.epc_query.specs.declared.pages.answers.Stop.{Stop}
+use Rattle.epc_query.specs.declared.pages.answers.Stop.TheVariants.{Memory as NoMemory, Read as NoRead}
 use Rattle.query_text.specs.declared.reply.Reply.{Reply}
 use Rattle.query_text.specs.declared.reply.Reply.TheVariants.{Mean, Dist, Play, Loss, Moves, Rank, Refused}
 use Rattle.query_text.specs.Readings.{IsAnswerable}

@@ -1,7 +1,6 @@
--- The means of the positions of one pip count. Source: this project's profile.
+-- The means of the positions of one pip count.
 use Rattle.std.specs.Prelude.{◌≡◌, ℕ, ◌<◌, ◌≤◌, List}
-use Rattle.race_model.specs.Fractions.{IsMean}
-use Rattle.race_model.specs.Levels.{level_count, IsLevel}
+use Rattle.race_model.specs.Prelude.{IsMean, level_count, IsLevel}
 use Rattle.certificate.specs.declared.query_fault.QueryFault.{QueryFault}
 use Rattle.certificate.specs.declared.query_fault.QueryFault.TheVariants.{OverBound, Finished, NotLegal, Memory, Read}
 use Rattle.query_text.specs.declared.reply.Level.{Level}

@@ -1,11 +1,8 @@
--- What was written of the replies to the lines of an input. Source: this project's profile.
+-- What was written of the replies to the lines of an input.
 use Rattle.std.specs.Prelude.{◌≡◌, ℕ, ◌<◌, ◌≤◌, List, [], ◌∷◌, ◌++◌, length, take, slice_index}
 use Rattle.std.specs.Prelude.{slice_index_or, Option, Some}
 use Rattle.std.specs.Io.KnownBytes.{Appends, Consumes}
-use Rattle.race_model.specs.Books.{Book}
-use Rattle.race_model.specs.Queries.{Query, IsAccepted}
-use Rattle.race_model.specs.Replies.{IsReplyIn}
-use Rattle.race_model.specs.InputLines.{rest_of, whole_lines, lines_of, HasNoFeed}
+use Rattle.race_model.specs.Prelude.{Book, Query, IsAccepted, IsReplyIn, rest_of, whole_lines, lines_of, HasNoFeed}
 use Rattle.db_layout.specs.Writes.{AppendsPart}
 use Rattle.epc_query.specs.Faults.{AsksMoves, AsksRecords}
 use Rattle.epc_query.specs.declared.run_fault.RunFault.{RunFault}
@@ -25,7 +22,7 @@ pub record HasReplies (f : Book) (lines : List (List ℕ))
   pub replies : AreReplies f lines text
   pub written : Appends old new text
 
--- .. by a prefix of the replies
+-- the writer's known bytes have grown by a prefix of the replies to these lines
 pub record HasPart (f : Book) (lines : List (List ℕ)) (old new : Option (List ℕ)) : Type 0 where
   pub text : List ℕ
   pub replies : AreReplies f lines text

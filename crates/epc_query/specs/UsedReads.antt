@@ -1,4 +1,4 @@
--- How many bytes were read where the reads have run out. Source: this project's profile.
+-- How many bytes were read where the reads have run out.
 use Rattle.std.specs.Prelude.{ℕ, ◌^◌, ◌≤◌, min, List, length, Option, Some, ⊤}
 use Rattle.std.specs.Io.KnownBytes.{Consumes}
 use Rattle.epc_query.specs.declared.run_fault.RunFault.{RunFault}

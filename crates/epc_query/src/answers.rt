@@ -2,32 +2,38 @@
 //! line by lent bytes.
 ghost use Rattle.std.specs.Prelude.{◌≡◌, ℕ, List, [], ◌∷◌, Some, Err, MatchResult, IfErr, ◌+◌, ◌*◌, ◌≤◌, ◌++◌, IsSome};
 ghost use Rattle.arrayvec.specs.ArrayString.{array_string_len};
-ghost use Rattle.race_model.specs.Books.{Book};
-ghost use Rattle.race_model.specs.Files.{version_of, bound_of};
-ghost use Rattle.race_model.specs.Positions.{pips};
-ghost use Rattle.race_model.specs.Plays.{Legal};
-ghost use Rattle.race_model.specs.Queries.{mean_query, play_query, loss_query};
-ghost use Rattle.race_model.specs.Replies.{IsAnswerOver, IsReplyOver};
+ghost use Rattle.race_model.specs.Prelude.{Book, version_of, bound_of, pips, IsFraction, IsThousandths, Legal};
+ghost use Rattle.race_model.specs.Prelude.{mean_query, dist_query, play_query, loss_query, moves_query, IsAnswerOver};
+ghost use Rattle.race_model.specs.Prelude.{IsReplyOver};
 ghost use Rattle.query_text.specs.Readings.{asked, IsAnswerable};
 ghost use Rattle.db_reader.specs.Telling.{WhereTold};
 ghost use Rattle.certificate.specs.Databases.{Database, Stays};
+ghost use Rattle.fixed_fraction.specs.Board.{board_whole};
+ghost use Rattle.epc_query.specs.Kinds.{file_book, long_by};
 ghost use Rattle.epc_query.specs.Runs.{HasReplies, IsStoppedAt};
 ghost use Rattle.epc_query.specs.UsedReads.{IsLineFault};
 
-use crate::lent::{Lent, Replies};
+use crate::losses::{loss, play};
+use crate::move_lists::put_list;
+use crate::opened::Opened;
 use crate::run_fault::RunFault;
-use crate::turns::{loss, play};
-use arrayvec::ArrayString;
+use arrayvec::ArrayVec;
 use db_layout::WriteFault;
+use fixed_fraction::{
+    BoardMean, WideFraction, board_mean_and_epc, board_mean_fraction, mean_and_epc, thousandths_of,
+};
 use home_board::Position;
 use legal_plays::Roll;
-use query_text::{Number, Query, accepted_query, put_rank, put_refusal, read_mean, write_line};
+use query_text::{
+    Query, Text, accepted_query, put_loss, put_mean, put_play, put_rank, put_refusal,
+    read_mean_query, write_line,
+};
 use std::alloc::Global;
 use std::io::Write;
 
-/// What answers lines, one after another, by way of a text with so much room. No line changes it,
-/// but for the count of failed reads.
-pub trait Answers<const ROOM: usize> {
+/// What answers lines, one after another, by way of a text. No line changes it, but for the count
+/// of failed reads.
+pub trait Answers {
     // what it answers from: its bytes, where they are told, their bound and version, and how often
     // a read has failed
     ghost seen: { Self → Database };
@@ -41,7 +47,7 @@ pub trait Answers<const ROOM: usize> {
         &mut self,
         alloc: Global,
         line: &[u8],
-        text: &mut ArrayString<ROOM>,
+        text: &mut Text,
         writer: &mut W,
     ) -> Result<(), RunFault>
         ensures answered { WhereTold (seen self.old).told (λ file. MatchResult result
@@ -53,26 +59,25 @@ pub trait Answers<const ROOM: usize> {
         ensures stays { Stays (seen self.old) (seen self.new) (result ≡ Err RunFault.Table) };
 }
 
-/// Lent bytes answer lines by their texts.
-impl<L: Replies<ROOM>, const ROOM: usize> Answers<ROOM> for L {
-    ghost seen = { λ lent. record {
-      told = Some (L.bytes lent);
-      bound = bound_of (L.bytes lent);
-      version = version_of (L.bytes lent);
+/// A file of either kind answers lines by its texts.
+impl<'a> Answers for Opened<'a> {
+    ghost seen = { λ opened. record {
+      told = Some opened.1;
+      bound = bound_of opened.1;
+      version = version_of opened.1;
       failures = 0;
     } };
 
-    ghost book = { L.said };
+    ghost book = { file_book };
 
     fn write_answer<W: Write>(
         &mut self,
         _alloc: Global,
         line: &[u8],
-        text: &mut ArrayString<ROOM>,
+        text: &mut Text,
         writer: &mut W,
     ) -> Result<(), RunFault> {
-        L::has_room();
-        let _bound = self.bound();
+        let _bound = self.long_bound();
         let Some(()) = answer(self, line, text) else {
             return Err(RunFault::Table);
         };
@@ -86,38 +91,30 @@ impl<L: Replies<ROOM>, const ROOM: usize> Answers<ROOM> for L {
 /// Makes a text the reply to a line, which comes without its line feed, as the text does: what
 /// bytes that were accepted say, or why the line is refused. A mean is read and written as it
 /// stands, since a query has room for two positions and a roll.
-pub(crate) fn answer<L: Replies<ROOM>, const ROOM: usize>(
-    lent: &L,
-    line: &[u8],
-    text: &mut ArrayString<ROOM>,
-) -> Option<()>
+pub(crate) fn answer(opened: &Opened<'_>, line: &[u8], text: &mut Text) -> Option<()>
     ensures some { IsSome result }
-    ensures reply { IsReplyOver L.Mean.whole (L.book lent.now) line.now
+    ensures reply { IsReplyOver board_whole (long_by opened.now) line.now
         (text.new.bytes ++ 10 ∷ []) }
-    ensures len { array_string_len text.new ≤ 254 * L.Mean.Part.most + 1910 }
+    ensures len { array_string_len text.new ≤ 16642 }
 {
-    L::has_room();
-    match read_mean(line) {
-        Some(position) if position.pips() <= lent.bound() => put_mean(lent, &position, text),
-        _ => answer_any(lent, line, text),
+    match read_mean_query(line) {
+        Some(position) if position.pips() <= opened.long_bound() => answer_mean(
+            opened, &position, text,
+        ),
+        _ => answer_any(opened, line, text),
     }
 }
 
 /// Makes a text the reply to a line of any kind, as `answer` does.
 #[inline(never)]
-fn answer_any<L: Replies<ROOM>, const ROOM: usize>(
-    lent: &L,
-    line: &[u8],
-    text: &mut ArrayString<ROOM>,
-) -> Option<()>
+fn answer_any(opened: &Opened<'_>, line: &[u8], text: &mut Text) -> Option<()>
     ensures some { IsSome result }
-    ensures reply { IsReplyOver L.Mean.whole (L.book lent.now) line.now
+    ensures reply { IsReplyOver board_whole (long_by opened.now) line.now
         (text.new.bytes ++ 10 ∷ []) }
-    ensures len { array_string_len text.new ≤ 254 * L.Mean.Part.most + 1910 }
+    ensures len { array_string_len text.new ≤ 16642 }
 {
-    L::has_room();
-    match accepted_query(line, lent.bound()) {
-        Ok(query) => put_answer(lent, &query, text),
+    match accepted_query(line, opened.long_bound()) {
+        Ok(query) => answer_query(opened, &query, text),
         Err(refusal) => {
             put_refusal(text, refusal);
             Some(())
@@ -126,88 +123,117 @@ fn answer_any<L: Replies<ROOM>, const ROOM: usize>(
 }
 
 /// Makes a text the answer to a query that is not refused.
-fn put_answer<L: Replies<ROOM>, const ROOM: usize>(
-    lent: &L,
-    query: &Query,
-    text: &mut ArrayString<ROOM>,
-) -> Option<()>
-    requires { IsAnswerable (L.book lent.now).bound (asked query.now) }
+fn answer_query(opened: &Opened<'_>, query: &Query, text: &mut Text) -> Option<()>
+    requires { IsAnswerable (long_by opened.now).bound (asked query.now) }
     ensures some { IsSome result }
-    ensures answer { IsAnswerOver L.Mean.whole (L.book lent.now) (asked query.now)
+    ensures answer { IsAnswerOver board_whole (long_by opened.now) (asked query.now)
         text.new.bytes }
-    ensures len { array_string_len text.new ≤ 254 * L.Mean.Part.most + 1910 }
+    ensures len { array_string_len text.new ≤ 16642 }
 {
-    L::has_room();
     match query {
-        Query::Mean(position) => put_mean(lent, position, text),
-        Query::Dist(position) => lent.put_dist(position, text),
-        Query::Play(position, roll) => put_play(lent, position, *roll, text),
-        Query::Loss(position, roll, to) => put_loss(lent, position, *roll, to, text),
-        Query::Moves(position, roll) => lent.put_moves(position, *roll, text),
+        Query::Mean(position) => answer_mean(opened, position, text),
+        Query::Dist(position) => answer_dist(opened, position, text),
+        Query::Play(position, roll) => answer_play(opened, position, *roll, text),
+        Query::Loss(position, roll, to) => answer_loss(opened, position, *roll, to, text),
+        Query::Moves(position, roll) => answer_moves(opened, position, *roll, text),
         Query::Rank(position) => {
-            put_rank(text, lent.ranks().rank(position));
+            put_rank(text, opened.ranks().rank(position));
             Some(())
         }
     }
 }
 
 /// Makes a text the mean of a position of at most the bound, and its effective pip count.
-fn put_mean<L: Lent, const ROOM: usize>(
-    lent: &L,
-    position: &Position,
-    text: &mut ArrayString<ROOM>,
-) -> Option<()>
-    requires within { pips position.now ≤ (L.book lent.now).bound }
-    requires room { 4 * L.Mean.Part.most + 52 ≤ ROOM }
+fn answer_mean(opened: &Opened<'_>, position: &Position, text: &mut Text) -> Option<()>
+    requires within { pips position.now ≤ (long_by opened.now).bound }
     ensures some { IsSome result }
-    ensures answer { IsAnswerOver L.Mean.whole (L.book lent.now) (mean_query position.now)
+    ensures answer { IsAnswerOver board_whole (long_by opened.now) (mean_query position.now)
         text.new.bytes }
-    ensures len { array_string_len text.new ≤ 4 * L.Mean.Part.most + 52 }
+    ensures len { array_string_len text.new ≤ 284 }
 {
-    let rank = lent.ranks().rank(position);
-    let mean = lent.mean_ranked(position, rank)?;
-    let (rolls, pips, thousandths) = mean.mean_and_epc();
-    query_text::put_mean(text, rolls, pips, thousandths);
+    let _bound = opened.long_bound();
+    let mean = opened.long_mean(position.pips(), opened.ranks().rank(position))?;
+    let (rolls, pips, thousandths) = told_mean(mean);
+    put_mean(text, rolls, pips, thousandths);
     Some(())
 }
 
-/// Makes a text what a roll from a position of at most the bound is played with.
-fn put_play<L: Lent, const ROOM: usize>(
-    lent: &L,
-    position: &Position,
-    roll: Roll,
-    text: &mut ArrayString<ROOM>,
-) -> Option<()>
-    requires within { pips position.now ≤ (L.book lent.now).bound }
-    requires room { 44 ≤ ROOM }
+/// A mean in lowest terms, its effective pip count, and that in thousandths. A mean with no lower
+/// part, as each of a database, takes numbers of 128 bits alone.
+#[inline(always)]
+fn told_mean(mean: BoardMean) -> (WideFraction, WideFraction, u64)
+    ensures mean { IsFraction mean board_whole result.0.numerator result.0.denominator }
+    ensures epc { IsFraction (49 * mean) (6 * board_whole)
+        result.1.numerator result.1.denominator }
+    ensures thousandths { IsThousandths result.1.numerator result.1.denominator result.2 }
+{
+    if let Some(short) = mean.scaled() {
+        let (rolls, pips) = mean_and_epc(short);
+        let told = thousandths_of(pips.numerator(), pips.denominator());
+        return (WideFraction::of(rolls), WideFraction::of(pips), told);
+    }
+    let (rolls, pips) = board_mean_and_epc(mean);
+    (rolls, pips, mean.effective_thousandths())
+}
+
+/// Makes a text how the number of rolls of a position of at most the bound is spread.
+// so that its room is not part of its caller's
+#[inline(never)]
+fn answer_dist(opened: &Opened<'_>, position: &Position, text: &mut Text) -> Option<()>
+    requires { pips position.now ≤ (long_by opened.now).bound }
     ensures some { IsSome result }
-    ensures answer { IsAnswerOver L.Mean.whole (L.book lent.now) (play_query position.now roll)
+    ensures answer { IsAnswerOver board_whole (long_by opened.now) (dist_query position.now)
+        text.new.bytes }
+    ensures len { array_string_len text.new ≤ 4152 }
+{
+    let _bound = opened.long_bound();
+    opened.put_dist(position.pips(), opened.ranks().rank(position), text)
+}
+
+/// Makes a text every result of a roll from a position of at most the bound, by rising loss and
+/// then by rising rank, each with its loss.
+// so that its room is not part of its caller's
+#[inline(never)]
+fn answer_moves(opened: &Opened<'_>, position: &Position, roll: Roll, text: &mut Text) -> Option<()>
+    requires { pips position.now ≤ (long_by opened.now).bound }
+    ensures some { IsSome result }
+    ensures answer { IsAnswerOver board_whole (long_by opened.now)
+        (moves_query position.now roll) text.new.bytes }
+    ensures len { array_string_len text.new ≤ 16642 }
+{
+    put_list(opened, position, roll, &mut ArrayVec::new(), text)
+}
+
+/// Makes a text what a roll from a position of at most the bound is played with.
+fn answer_play(opened: &Opened<'_>, position: &Position, roll: Roll, text: &mut Text) -> Option<()>
+    requires within { pips position.now ≤ (long_by opened.now).bound }
+    ensures some { IsSome result }
+    ensures answer { IsAnswerOver board_whole (long_by opened.now) (play_query position.now roll)
         text.new.bytes }
     ensures len { array_string_len text.new ≤ 44 }
 {
-    let (play, to) = play(lent, position, roll)?;
+    let (play, to) = play(opened, position, roll)?;
     let _checkers = to.checkers();
-    query_text::put_play(text, &play, &to);
+    put_play(text, &play, &to);
     Some(())
 }
 
 /// Makes a text what a result of a roll from a position of at most the bound costs.
-fn put_loss<L: Lent, const ROOM: usize>(
-    lent: &L,
+fn answer_loss(
+    opened: &Opened<'_>,
     position: &Position,
     roll: Roll,
     to: &Position,
-    text: &mut ArrayString<ROOM>,
+    text: &mut Text,
 ) -> Option<()>
-    requires within { pips position.now ≤ (L.book lent.now).bound }
+    requires within { pips position.now ≤ (long_by opened.now).bound }
     requires legal { Legal position.now roll to.now }
-    requires room { 2 * L.Mean.Part.most + 6 ≤ ROOM }
     ensures some { IsSome result }
-    ensures answer { IsAnswerOver L.Mean.whole (L.book lent.now)
+    ensures answer { IsAnswerOver board_whole (long_by opened.now)
         (loss_query position.now roll to.now) text.new.bytes }
-    ensures len { array_string_len text.new ≤ 2 * L.Mean.Part.most + 6 }
+    ensures len { array_string_len text.new ≤ 122 }
 {
-    let loss = loss(lent, position, roll, to)?;
-    query_text::put_loss(text, loss.fraction());
+    let loss = loss(opened, position, roll, to)?;
+    put_loss(text, board_mean_fraction(loss));
     Some(())
 }

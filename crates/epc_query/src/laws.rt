@@ -1,12 +1,9 @@
 //! Facts about replies, each on a function with an empty body: a call brings the fact into the
 //! caller's proof, and costs nothing when it runs.
 ghost use Rattle.std.specs.Prelude.{ℕ, List, [], ◌∷◌, ◌++◌};
-ghost use Rattle.race_model.specs.Levels.{IsLevelLine};
-ghost use Rattle.race_model.specs.Replies.{IsReply};
-ghost use Rattle.query_text.specs.declared.reply.Level.{Level};
+ghost use Rattle.race_model.specs.Prelude.{IsReply};
 ghost use Rattle.query_text.specs.declared.reply.Reply.{Reply};
-ghost use Rattle.epc_query.specs.LevelMeans.{HasLevel};
-ghost use Rattle.query_text.specs.Texts.{IsTextOf, level_text};
+ghost use Rattle.query_text.specs.Texts.{IsTextOf};
 ghost use Rattle.epc_query.specs.Answers.{IsReplyTo};
 
 use race_model::laws::law_results;
@@ -19,9 +16,3 @@ pub fn law_reply_text()
 {
     law_results();
 }
-
-/// The line of a level is the one that `race_model` defines for its pip count.
-pub fn law_level_text()
-    ensures { (f : List ℕ) (p : ℕ) (level : Level) → HasLevel f p level
-        → IsLevelLine f p (level_text level) }
-{}

@@ -2,9 +2,7 @@
 //! many they are: each place is found by the header that is kept beside them, so no place depends
 //! on what the bytes are.
 ghost use Rattle.std.specs.Prelude.{◌≡◌, ◌<◌, ◌≤◌, length, IsSome, IfSome};
-ghost use Rattle.race_model.specs.Positions.{pips};
-ghost use Rattle.race_model.specs.Ranks.{at_rank};
-ghost use Rattle.race_model.specs.BoardFiles.{board_place, board_record};
+ghost use Rattle.race_model.specs.Prelude.{pips, at_rank, board_place, board_record};
 
 use db_layout::{BOARD_VERSION, BoardHeader, BoardRecord, Kind};
 
@@ -22,6 +20,18 @@ pub struct LentBoard<'a> {
 }
 
 impl<'a> LentBoard<'a> {
+    /// The pip count of the position of a rank.
+    #[inline(always)]
+    pub fn pips_at(&self, rank: u16) -> u8
+        requires { rank < self.now.header.count }
+        ensures value { result ≡ pips (at_rank rank) }
+        ensures range { result ≤ 90 }
+    {
+        Kind::Board
+            .find(BOARD_VERSION, self.header.bound, rank)
+            .pips
+    }
+
     /// What stands for the record of a rank.
     pub fn record_at(&self, rank: u16) -> Option<BoardRecord<'a>>
         requires { rank < self.now.header.count }

@@ -1,98 +1,87 @@
-//! The positions of one pip count.
-ghost use Rattle.std.specs.Prelude.{◌≡◌, ℕ, ◌*◌, ◌<◌, ◌≤◌, List, Err, IfOk, IfErr, OnOk, OnErr};
-ghost use Rattle.race_model.specs.Ranks.{first_of, count_to};
-ghost use Rattle.race_model.specs.Files.{mean_at};
-ghost use Rattle.race_model.specs.LocalEquations.{whole};
-ghost use Rattle.db_reader.specs.Telling.{WhereTold};
-ghost use Rattle.certificate.specs.Databases.{Stays};
-ghost use Rattle.epc_query.specs.LevelMeans.{AreMeansOf, HasLevel, IsLevelFault};
+//! The positions of one pip count, and the line that an audit writes of them.
+ghost use Rattle.std.specs.Prelude.{◌≡◌, ◌+◌, ◌*◌, ◌<◌, ◌≤◌, min, max, IsSome, IfSome, OnSome};
+ghost use Rattle.arrayvec.specs.ArrayString.{array_string_len};
+ghost use Rattle.race_model.specs.Prelude.{IsLevelLineOver, count_to};
+ghost use Rattle.fixed_fraction.specs.Board.{board_whole};
+ghost use Rattle.epc_query.specs.Kinds.{long_by};
+ghost use Rattle.epc_query.specs.BookLevels.{HasLevelIn};
 
-use crate::losses::recorded_mean;
-use certificate::{Checked, QueryFault};
-use db_reader::Table;
-use fixed_fraction::{MOST, Scaled, mean};
-use query_text::Level;
+use crate::opened::Opened;
+use fixed_fraction::{BoardMean, board_mean_fraction};
+use query_text::{Text, put_level};
 use race_model::laws;
 use ranking::{count_to, first_of};
 
-/// How many positions have a pip count, and the least and the greatest of their means. Refused as
-/// `OverBound` where the pip count is over the bound, and as `Read` where a record could not be
-/// read, or, read again, holds numbers that no accepted record can hold.
-pub fn audit_level<T: Table>(checked: &mut Checked<T>, pips: u8) -> Result<Level, QueryFault>
-    ensures within { OnOk result (pips ≤ checked.old.bound) }
-    ensures fault { IfErr result (IsLevelFault (checked.old.bound) pips) }
-    ensures level { WhereTold checked.old.told (λ file. IfOk result (HasLevel file pips)) }
-    ensures stays { Stays checked.old checked.new (result ≡ Err QueryFault.Read) }
+/// Makes a text the line that an audit writes of the positions of a pip count of at most the bound.
+/// Nothing is missing unless the bytes were changed since they were checked.
+pub(crate) fn put_level_line(opened: &Opened<'_>, pips: u8, text: &mut Text) -> Option<()>
+    requires { pips ≤ (long_by opened.now).bound }
+    ensures some { IsSome result }
+    ensures line { OnSome result
+        (IsLevelLineOver board_whole (long_by opened.now) pips text.new.bytes) }
+    ensures len { OnSome result (array_string_len text.new ≤ 282) }
 {
-    laws::law_counts();
-    if pips > checked.bound() {
-        return Err(QueryFault::OverBound);
-    }
-    let means = means_of(checked, first_of(pips), count_to(pips))?;
-    Ok(level_of(pips, means))
+    let level = find_level(opened, pips)?;
+    let least = board_mean_fraction(level.least);
+    let greatest = board_mean_fraction(level.greatest);
+    put_level(text, level.pips, level.positions, least, greatest);
+    Some(())
 }
 
-/// The least and the greatest of some means, as numerators over 36 ^ 22.
+/// The positions of one pip count.
 #[derive(Clone, Copy, Debug, PartialEq, Eq)]
-struct LevelMeans {
-    /// The least, and 22 rolls where there is none.
-    least: u128,
+struct BookLevel {
+    /// The pip count.
+    pub pips: u8,
 
-    /// The greatest, and 0 where there is none.
-    greatest: u128,
+    /// How many positions have it.
+    pub positions: u16,
+
+    /// The least mean number of rolls of these positions.
+    pub least: BoardMean,
+
+    /// The greatest mean number of rolls of these positions.
+    pub greatest: BoardMean,
 }
 
-impl LevelMeans {
-    /// Those of no position.
-    const NONE: LevelMeans = LevelMeans {
-        least: MOST,
-        greatest: 0,
-    };
-}
-
-/// The positions of a pip count of at most 58, by the least and the greatest of their means.
-fn level_of(pips: u8, means: LevelMeans) -> Level
-    requires low { pips ≤ 58 }
-    requires least { means.least ≤ 22 * whole }
-    requires greatest { means.greatest ≤ 22 * whole }
-    ensures { (file : List ℕ) →
-        AreMeansOf (mean_at file) (first_of pips) (count_to pips) means.least means.greatest →
-        HasLevel file pips result }
+/// How many positions have a pip count of at most the bound, and the least and the greatest of
+/// their means.
+fn find_level(opened: &Opened<'_>, pips: u8) -> Option<BookLevel>
+    requires { pips ≤ (long_by opened.now).bound }
+    ensures some { IsSome result }
+    ensures level { IfSome result (HasLevelIn (long_by opened.now) pips) }
 {
     laws::law_rank();
     laws::law_at_rank();
     laws::law_counts();
-    Level {
-        pips,
-        positions: count_to(pips) - first_of(pips),
-        least: mean(Scaled::new(means.least).unwrap()),
-        greatest: mean(Scaled::new(means.greatest).unwrap()),
+    let _bound = opened.long_bound();
+    let first = first_of(pips);
+    let end = count_to(pips);
+    let mut least = opened.long_mean(opened.pips_at(first), first)?;
+    let mut greatest = least;
+    for rank in first + 1..end {
+        let mean = opened.long_mean(opened.pips_at(rank), rank)?;
+        least = lesser(least, mean);
+        greatest = greater(greatest, mean);
     }
+    Some(BookLevel {
+        pips,
+        positions: end - first,
+        least,
+        greatest,
+    })
 }
 
-/// The least and the greatest mean of the ranks from one on and before another.
-fn means_of<T: Table>(
-    checked: &mut Checked<T>,
-    first: u16,
-    end: u16,
-) -> Result<LevelMeans, QueryFault>
-    requires { end ≤ count_to (checked.old.bound) }
-    ensures fault { OnErr result (result ≡ Err QueryFault.Read) }
-    ensures least { IfOk result (λ means. means.least ≤ 22 * whole) }
-    ensures greatest { IfOk result (λ means. means.greatest ≤ 22 * whole) }
-    ensures means { WhereTold checked.old.told
-        (λ file. IfOk result (λ means.
-        AreMeansOf (mean_at file) first end means.least means.greatest)) }
-    ensures stays { Stays checked.old checked.new (result ≡ Err QueryFault.Read) }
+/// The lesser of two means.
+fn lesser(one: BoardMean, other: BoardMean) -> BoardMean
+    ensures { result ≡ min one other }
 {
-    laws::law_rank();
-    laws::law_counts();
-    let mut means = LevelMeans::NONE;
-    for rank in first..end {
-        let position = checked.ranks().unrank(rank).unwrap();
-        let mean = recorded_mean(checked, &position)?.numerator();
-        means.least = means.least.min(mean);
-        means.greatest = means.greatest.max(mean);
-    }
-    Ok(means)
+    if other.is_less(one) { other } else { one }
+}
+
+/// The greater of two means.
+fn greater(one: BoardMean, other: BoardMean) -> BoardMean
+    ensures { result ≡ max one other }
+{
+    if one.is_less(other) { other } else { one }
 }

@@ -11,45 +11,39 @@
 //! among all results, that a list of moves has every result once, in order, that lent bytes are
 //! opened exactly where they are a right file, that each answer is what the definitions say of such
 //! a file, and that `run` writes the replies to the lines that it read and nothing else. What lent
-//! bytes say is a book, and all that is asked of a book is here once, for `Lent`, with no memory of
-//! its own and no state. Where somebody changes the bytes meanwhile no call reads beside them: what
-//! reads them, `lent_records` and `lent_board`, knows how many they are, and nothing of what they
-//! are.
+//! bytes say is a book over 33 throws, whatever their kind, and all that is asked of it is here
+//! once, with no memory of its own and no state: `database` and `whole_board` find a record and
+//! read its mean, its plays and its shares. Where somebody changes the bytes meanwhile no call
+//! reads outside them: what reads them, `lent_records` and `lent_board`, knows how many they are,
+//! and nothing of what they are.
 #![tactic(auto)]
 
-mod answer;
 mod answers;
-mod board_levels;
 mod choices;
 mod database;
 pub mod laws;
-mod lent;
 mod lent_board;
-mod lent_levels;
-mod lent_moves;
 mod lent_records;
 mod levels;
 mod lines;
 mod losses;
-mod move_list;
+mod move_lists;
+mod opened;
+mod pages;
 mod reads;
-mod rising_records;
 mod run_fault;
 mod running;
-mod turns;
 mod whole_board;
 
-pub use answer::{Stop, answer_line};
 pub use answers::Answers;
-pub use board_levels::{board_level, put_board_level};
 pub use choices::{MOST_RESULTS, RankedChoice, include_choice};
-pub use database::{Accepted, Database, accept};
-pub use lent_levels::BookLevel;
-pub use levels::audit_level;
-pub use losses::loss;
-pub use move_list::moves;
+pub use database::Database;
+pub use opened::{Accepted, Opened, Rounded, accept_as, accept_stated, stated_kind};
+pub use pages::answers::{Stop, answer_line};
+pub use pages::levels::audit_level;
+pub use pages::losses::loss;
+pub use pages::moves::moves;
 pub use query_text::{Choice, Level, Refusal, Reply, Text, write_level, write_reply};
-pub use rising_records::RisingRecords;
 pub use run_fault::RunFault;
 pub use running::{run, run_lines};
-pub use whole_board::{Board, BoardText, MOST_ROLLS};
+pub use whole_board::MOST_ROLLS;

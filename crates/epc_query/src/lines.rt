@@ -2,7 +2,7 @@
 ghost use Rattle.std.specs.Prelude.{◌≡◌, ℕ, ◌+◌, ◌^◌, ◌<◌, ◌≤◌, List, [], ◌∷◌, ◌++◌, length};
 ghost use Rattle.std.specs.Prelude.{Option, Some, Err, MatchOption, MatchResult, IfOk, IfErr, OnErr};
 ghost use Rattle.std.specs.Io.KnownBytes.{Keeps};
-ghost use Rattle.race_model.specs.InputLines.{HasNoFeed, whole_lines, lines_of};
+ghost use Rattle.race_model.specs.Prelude.{HasNoFeed, whole_lines, lines_of};
 ghost use Rattle.db_reader.specs.Telling.{WhereTold};
 ghost use Rattle.certificate.specs.Databases.{Stays};
 ghost use Rattle.epc_query.specs.Runs.{HasReplies, IsStoppedAt, IsFirstFeed, IsAnswered};
@@ -10,8 +10,7 @@ ghost use Rattle.epc_query.specs.UsedReads.{IsLineFault};
 
 use crate::answers::Answers;
 use crate::run_fault::RunFault;
-use arrayvec::ArrayString;
-use query_text::{LineBuffer, whole_line};
+use query_text::{LineBuffer, Text, whole_line};
 use race_model::laws;
 use std::alloc::Global;
 use std::io::Write;
@@ -30,12 +29,12 @@ fn first_feed(bytes: &[u8]) -> Option<usize>
 
 /// Takes the next bytes of the input: a line feed ends a line, which is answered, and what stands
 /// after the last one is kept. The replies are flushed. It gives how many lines were answered.
-pub(crate) fn answer_chunk<const ROOM: usize, A: Answers<ROOM>, W: Write>(
+pub(crate) fn answer_chunk<A: Answers, W: Write>(
     alloc: Global,
     answers: &mut A,
     held: &mut LineBuffer,
     chunk: &[u8],
-    text: &mut ArrayString<ROOM>,
+    text: &mut Text,
     writer: &mut W,
 ) -> Result<u64, RunFault>
     requires { length chunk.now < 2 ^ 32 }
@@ -74,11 +73,11 @@ pub(crate) fn answer_chunk<const ROOM: usize, A: Answers<ROOM>, W: Write>(
 
 /// Answers the line that stands after the last line feed, at the end of the input, unless it is
 /// empty. It gives how many lines were answered, 0 or 1.
-pub(crate) fn answer_last<const ROOM: usize, A: Answers<ROOM>, W: Write>(
+pub(crate) fn answer_last<A: Answers, W: Write>(
     alloc: Global,
     answers: &mut A,
     held: &LineBuffer,
-    text: &mut ArrayString<ROOM>,
+    text: &mut Text,
     writer: &mut W,
 ) -> Result<u64, RunFault>
     ensures answered { WhereTold (A.seen answers.old).told
@@ -105,8 +104,5 @@ pub(crate) fn flush<W: Write>(writer: &mut W) -> Result<(), RunFault>
     ensures kept { Keeps (W.contents writer.old) (W.contents writer.new) }
     ensures fault { OnErr result (result ≡ Err RunFault.Write) }
 {
-    match writer.flush() {
-        Ok(()) => Ok(()),
-        Err(_) => Err(RunFault::Write),
-    }
+    writer.flush().map_err(|_| RunFault::Write)
 }

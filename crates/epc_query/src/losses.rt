@@ -1,145 +1,91 @@
-//! What a play costs against the best one.
-ghost use Rattle.std.specs.Prelude.{◌≡◌, ◌≤◌, Err, IfOk, IfErr, OnOk, OnErr};
-ghost use Rattle.race_model.specs.Positions.{IsPosition, IsFinished, pips};
-ghost use Rattle.race_model.specs.Plays.{Legal};
-ghost use Rattle.race_model.specs.Files.{mean as mean_of, mean_at, play};
-ghost use Rattle.race_model.specs.LocalEquations.{whole};
-ghost use Rattle.race_model.specs.Fractions.{IsFraction};
-ghost use Rattle.race_model.specs.Losses.{loss, IsLoss};
-ghost use Rattle.race_model.specs.Queries.{loss_query};
-ghost use Rattle.db_reader.specs.Telling.{WhereTold};
-ghost use Rattle.certificate.specs.Databases.{Stays};
-ghost use Rattle.query_text.specs.Readings.{IsAnswerable};
-ghost use Rattle.epc_query.specs.Faults.{IsFaultOfQuery};
+//! What a position takes, what a roll is played with, and what plays cost.
+ghost use Rattle.std.specs.Prelude.{◌≡◌, ◌≤◌, IsSome, IfSome};
+ghost use Rattle.race_model.specs.Prelude.{pips, Legal, rank as rank_of, IsFirstPlay, play_in, recorded_in, loss_in};
+ghost use Rattle.legal_plays.specs.MoveLists.{moves_of};
+ghost use Rattle.epc_query.specs.Kinds.{long_by};
 
-use certificate::{Checked, QueryFault};
-use db_reader::Table;
-use fixed_fraction::{Fraction, Scaled, mean};
+use crate::opened::Opened;
+use fixed_fraction::BoardMean;
 use home_board::Position;
-use legal_plays::{Roll, play_to};
+use legal_plays::{Play, Roll, play_to};
 use race_model::laws;
 
-/// What a result of a roll costs: the mean number of rolls after it less the least such mean
-/// among all results, in lowest terms. Refused as `OverBound` where the first position has more
-/// pips than the bound, else as `Finished` where no checker is left there, else as `NotLegal`
-/// where the roll doesn't lead to the second position, and as `Read` where a record could not be
-/// read, or, read again, holds numbers that no accepted record can hold.
-#[inline(never)]
-pub fn loss<T: Table>(
-    checked: &mut Checked<T>,
-    position: &Position,
-    roll: Roll,
-    to: &Position,
-) -> Result<Fraction, QueryFault>
-    ensures answerable { OnOk result
-        (IsAnswerable (checked.old.bound) (loss_query position.now roll to.now)) }
-    ensures fault { IfErr result
-        (IsFaultOfQuery (checked.old.bound) (loss_query position.now roll to.now)) }
-    ensures recorded { WhereTold checked.old.told (λ file. IfOk result (λ lost.
-        IsFraction (loss file position.now roll to.now) whole lost.numerator lost.denominator)) }
-    ensures lost { WhereTold checked.old.told (λ file. OnOk result
-        (IsLoss position.now roll to.now (loss file position.now roll to.now))) }
-    ensures stays { Stays checked.old checked.new (result ≡ Err QueryFault.Read) }
+/// The recorded play of a roll from a position of at most the bound, and the position that it leads
+/// to.
+pub(crate) fn play(opened: &Opened<'_>, position: &Position, roll: Roll) -> Option<(Play, Position)>
+    requires { pips position.now ≤ (long_by opened.now).bound }
+    ensures some { IsSome result }
+    ensures recorded { IfSome result (λ answer.
+        answer.1 ≡ recorded_in (long_by opened.now) position.now roll) }
+    ensures first { IfSome result (λ answer.
+        IsFirstPlay position.now roll answer.1 (moves_of answer.0.items)) }
+    ensures legal { IfSome result (λ answer. Legal position.now roll answer.1) }
 {
-    laws::law_loss();
-    if position.pips() > checked.bound() {
-        return Err(QueryFault::OverBound);
-    }
-    if position.is_finished() {
-        return Err(QueryFault::Finished);
-    }
-    if play_to(position, roll, to).is_none() {
-        return Err(QueryFault::NotLegal);
-    }
-    lost(checked, position, roll, to)
+    let _bound = opened.long_bound();
+    let _pips = position.pips();
+    let recorded = opened.recorded(position, roll)?;
+    let to = opened.ranks().unrank(recorded)?;
+    let play = play_to(position, roll, &to)?;
+    Some((play, to))
 }
 
-/// What a result of a roll costs that it leads to from an unfinished position of at most the
-/// bound.
-fn lost<T: Table>(
-    checked: &mut Checked<T>,
-    position: &Position,
-    roll: Roll,
-    to: &Position,
-) -> Result<Fraction, QueryFault>
-    requires within { pips position.now ≤ checked.old.bound }
-    requires position { IsPosition position.now }
-    requires unfinished { ¬ IsFinished position.now }
-    requires legal { Legal position.now roll to.now }
-    ensures fault { OnErr result (result ≡ Err QueryFault.Read) }
-    ensures recorded { WhereTold checked.old.told (λ file. IfOk result (λ lost.
-        IsFraction (loss file position.now roll to.now) whole lost.numerator lost.denominator)) }
-    ensures stays { Stays checked.old checked.new (result ≡ Err QueryFault.Read) }
-{
-    let least = least_mean(checked, position, roll)?;
-    let lost = lost_beside(checked, position, roll, least, to)?;
-    Ok(mean(lost))
-}
-
-/// What a result of a roll costs beside the least mean, in rolls.
-pub(crate) fn lost_beside<T: Table>(
-    checked: &mut Checked<T>,
-    position: &Position,
-    roll: Roll,
-    least: Scaled,
-    to: &Position,
-) -> Result<Scaled, QueryFault>
-    requires within { pips position.now ≤ checked.old.bound }
-    requires position { IsPosition position.now }
-    requires legal { Legal position.now roll to.now }
-    requires least { WhereTold checked.old.told
-        (λ file. least ≡ mean_at file (play file position.now roll)) }
-    ensures fault { OnErr result (result ≡ Err QueryFault.Read) }
-    ensures recorded { WhereTold checked.old.told
-        (λ file. IfOk result (λ lost. lost ≡ loss file position.now roll to.now)) }
-    ensures stays { Stays checked.old checked.new (result ≡ Err QueryFault.Read) }
-{
-    laws::law_loss();
-    laws::law_results();
-    let _bound = checked.bound();
-    let after = recorded_mean(checked, to)?;
-    match after.minus(least) {
-        Some(difference) => Ok(difference),
-        None => Err(QueryFault::Read),
-    }
-}
-
-/// The least mean after a roll from an unfinished position of at most the bound: that after the
-/// recorded play.
-pub(crate) fn least_mean<T: Table>(
-    checked: &mut Checked<T>,
-    position: &Position,
-    roll: Roll,
-) -> Result<Scaled, QueryFault>
-    requires within { pips position.now ≤ checked.old.bound }
-    requires position { IsPosition position.now }
-    requires unfinished { ¬ IsFinished position.now }
-    ensures fault { OnErr result (result ≡ Err QueryFault.Read) }
-    ensures recorded { WhereTold checked.old.told
-        (λ file. IfOk result (λ least. least ≡ mean_at file (play file position.now roll))) }
-    ensures stays { Stays checked.old checked.new (result ≡ Err QueryFault.Read) }
+/// The least mean after a roll from a position of at most the bound: that after the recorded play.
+pub(crate) fn least_mean(opened: &Opened<'_>, position: &Position, roll: Roll) -> Option<BoardMean>
+    requires { pips position.now ≤ (long_by opened.now).bound }
+    ensures some { IsSome result }
+    ensures recorded { IfSome result (λ least. least
+        ≡ (long_by opened.now).means (play_in (long_by opened.now) position.now roll)) }
 {
     laws::law_results();
-    let _bound = checked.bound();
-    match checked.play(position, roll) {
-        Ok(answer) => recorded_mean(checked, &answer.1),
-        Err(_) => Err(QueryFault::Read),
-    }
+    let _bound = opened.long_bound();
+    let _pips = position.pips();
+    let recorded = opened.recorded(position, roll)?;
+    let to = opened.ranks().unrank(recorded)?;
+    // so that nothing is told by bytes that were changed to where the roll doesn't lead
+    let _play = play_to(position, roll, &to)?;
+    opened.long_mean(to.pips(), recorded)
 }
 
-/// The recorded mean of a position of at most the bound.
-pub(crate) fn recorded_mean<T: Table>(
-    checked: &mut Checked<T>,
+/// What a result of a roll, whose rank is known, costs beside the least mean, in rolls.
+pub(crate) fn lost(
+    opened: &Opened<'_>,
     position: &Position,
-) -> Result<Scaled, QueryFault>
-    requires { pips position.now ≤ checked.old.bound }
-    ensures fault { OnErr result (result ≡ Err QueryFault.Read) }
-    ensures recorded { WhereTold checked.old.told
-        (λ file. IfOk result (λ mean. mean ≡ mean_of file position.now)) }
-    ensures stays { Stays checked.old checked.new (result ≡ Err QueryFault.Read) }
+    roll: Roll,
+    least: BoardMean,
+    to: &Position,
+    rank: u16,
+) -> Option<BoardMean>
+    requires within { pips position.now ≤ (long_by opened.now).bound }
+    requires legal { Legal position.now roll to.now }
+    requires least { least
+        ≡ (long_by opened.now).means (play_in (long_by opened.now) position.now roll) }
+    requires rank { rank ≡ rank_of to.now }
+    ensures some { IsSome result }
+    ensures recorded { IfSome result (λ lost.
+        lost ≡ loss_in (long_by opened.now) position.now roll to.now) }
 {
-    match checked.scaled(position) {
-        Ok(mean) => Ok(mean),
-        Err(_) => Err(QueryFault::Read),
-    }
+    laws::law_results();
+    laws::law_loss();
+    let _bound = opened.long_bound();
+    let _pips = position.pips();
+    opened.long_mean(to.pips(), rank)?.minus(least)
+}
+
+/// What a result of a roll costs, in rolls: the mean after it less the least such mean among all
+/// results.
+pub(crate) fn loss(
+    opened: &Opened<'_>,
+    position: &Position,
+    roll: Roll,
+    to: &Position,
+) -> Option<BoardMean>
+    requires within { pips position.now ≤ (long_by opened.now).bound }
+    requires legal { Legal position.now roll to.now }
+    ensures some { IsSome result }
+    ensures recorded { IfSome result (λ lost.
+        lost ≡ loss_in (long_by opened.now) position.now roll to.now) }
+{
+    let least = least_mean(opened, position, roll)?;
+    let rank = opened.ranks().rank(to);
+    lost(opened, position, roll, least, to, rank)
 }

@@ -2,8 +2,7 @@
 ghost use Rattle.std.specs.Prelude.{◌≡◌, ℕ, ◌+◌, ◌^◌, ◌<◌, ◌≤◌, List, ◌++◌, length, Option};
 ghost use Rattle.std.specs.Prelude.{Err, MatchResult, IfOk, IfErr, OnErr, false};
 ghost use Rattle.std.specs.Io.KnownBytes.{Keeps, IsAtEnd};
-ghost use Rattle.race_model.specs.Files.{book_of};
-ghost use Rattle.race_model.specs.InputLines.{whole_lines, lines_of};
+ghost use Rattle.race_model.specs.Prelude.{book_of, whole_lines, lines_of};
 ghost use Rattle.db_reader.specs.Telling.{WhereTold};
 ghost use Rattle.certificate.specs.Databases.{Stays};
 ghost use Rattle.epc_query.specs.Runs.{HasReplies, IsStoppedAt, IsAnswered, IsRunStopped};
@@ -13,7 +12,6 @@ use crate::answers::Answers;
 use crate::lines::{answer_chunk, answer_last, flush};
 use crate::reads::Reads;
 use crate::run_fault::RunFault;
-use arrayvec::ArrayString;
 use certificate::Checked;
 use db_reader::Table;
 use query_text::{LineBuffer, Text};
@@ -62,10 +60,10 @@ pub fn run<T: Table, R: Read, W: Write>(
 
 /// Answers each line of an input from whatever answers lines, as `run` does from an accepted table:
 /// with the same replies, reads and refusals. The lines share the text.
-pub fn run_lines<const ROOM: usize, A: Answers<ROOM>, R: Read, W: Write>(
+pub fn run_lines<A: Answers, R: Read, W: Write>(
     alloc: Global,
     answers: &mut A,
-    text: &mut ArrayString<ROOM>,
+    text: &mut Text,
     reader: &mut R,
     writer: &mut W,
     turns: u64,
@@ -103,11 +101,11 @@ pub fn run_lines<const ROOM: usize, A: Answers<ROOM>, R: Read, W: Write>(
 }
 
 /// Answers what stands after the last line feed, and flushes the reply.
-fn answer_end<const ROOM: usize, A: Answers<ROOM>, W: Write>(
+fn answer_end<A: Answers, W: Write>(
     alloc: Global,
     answers: &mut A,
     held: &LineBuffer,
-    text: &mut ArrayString<ROOM>,
+    text: &mut Text,
     writer: &mut W,
 ) -> Result<u64, RunFault>
     ensures answered { WhereTold (A.seen answers.old).told

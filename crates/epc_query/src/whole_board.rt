@@ -1,53 +1,25 @@
-//! A board file in bytes that somebody lends, and what it says of a position.
-ghost use Rattle.std.specs.Prelude.{◌≡◌, ℕ, ◌+◌, ◌-◌, ◌*◌, ◌^◌, ◌<◌, ◌≤◌, IsSome, IfSome};
-ghost use Rattle.std.specs.Prelude.{[], ◌∷◌, ◌++◌, map, All, slice_index};
+//! The records of a board file in bytes that somebody lends, and what they say.
+ghost use Rattle.std.specs.Prelude.{◌≡◌, ℕ, ◌+◌, ◌-◌, ◌*◌, ◌^◌, ◌<◌, ◌≤◌, ◌↔◌, IsTrue, IsSome, IfSome};
+ghost use Rattle.std.specs.Prelude.{slice_index, length};
 ghost use Rattle.arrayvec.specs.ArrayString.{array_string_len};
-ghost use Rattle.race_model.specs.Positions.{IsPosition, pips as pips_of};
-ghost use Rattle.race_model.specs.Plays.{Legal};
-ghost use Rattle.race_model.specs.FirstPlays.{IsFirstPlay};
-ghost use Rattle.race_model.specs.Ranks.{rank as rank_of, at_rank, count_to};
-ghost use Rattle.race_model.specs.Horizon.{most_rolls};
-ghost use Rattle.race_model.specs.Files.{bound_of};
-ghost use Rattle.race_model.specs.Strategies.{IsLeastIn};
-ghost use Rattle.race_model.specs.Books.{mean_in, recorded_in, follow_in};
-ghost use Rattle.race_model.specs.Losses.{loss_in, IsLossIn, IsMoveListIn};
-ghost use Rattle.race_model.specs.Replies.{IsReplyIn};
-ghost use Rattle.race_model.specs.Endings.{endings};
-ghost use Rattle.race_model.specs.BoardFiles.{board_book, board_record, count_parts, told_count, count_at};
-ghost use Rattle.race_model.specs.RightFiles.{IsRightBoard};
-ghost use Rattle.legal_plays.specs.MoveLists.{moves_of};
-ghost use Rattle.ranking.specs.Tables.{IsRankTable};
+ghost use Rattle.race_model.specs.Prelude.{pips as pips_of, roll_index, at_rank, count_to, most_rolls, bound_of};
+ghost use Rattle.race_model.specs.Prelude.{board_book, board_record, count_parts, told_count, IsDistReplyOver};
+ghost use Rattle.race_model.specs.Prelude.{IsRightBoard};
 ghost use Rattle.fixed_fraction.specs.Board.{board_whole, part};
 ghost use Rattle.epc_query.specs.Opened.{IsOpenedBoard};
-ghost use Rattle.epc_query.specs.Choices.{result_of};
 
-use crate::answers::answer;
-use crate::choices::{MOST_RESULTS, RankedChoice};
-use crate::database::Accepted;
-use crate::lent::{Lent, Replies};
 use crate::lent_board::LentBoard;
-use crate::lent_moves::{list, put_list};
-use crate::turns;
-use arrayvec::{ArrayString, ArrayVec};
-use db_layout::{BoardHeader, BoardRecord, most_rolls};
-use fixed_fraction::{BoardMean, LongCount, ShortCount};
-use home_board::Position;
-use legal_plays::{Play, Roll};
-use query_text::put_dist;
-use race_model::laws;
-use ranking::RankTable;
+use crate::opened::Accepted;
+use db_layout::{BoardHeader, BoardRecord, Parts, most_rolls};
+use fixed_fraction::{BoardMean, LongCount, ShortCount, Wide, board_share};
+use legal_plays::Roll;
+use query_text::{Text, push_share, put_dist_word};
 use std::marker::Model;
 
-/// Room for the text of any reply: a list of 127 results has at most 16,642 bytes.
-pub type BoardText = ArrayString<16896>;
-
-/// The most rolls that any game takes (this project's profile).
+/// The most rolls that any game takes.
 pub const MOST_ROLLS: u8 = 33;
 
-/// A board file in bytes that somebody lends, which are a right one: for each position of at most
-/// its bound the recorded mean is the least over all strategies, also those that look at the
-/// history; the recorded plays are legal and reach it; and the recorded counts are those of these
-/// plays.
+/// The records of a board file in bytes that somebody lends, which are a right one.
 ///
 /// What may be missing of an answer is missing only where the bytes were changed since they were
 /// checked, as another program may do; no clause speaks of that.
@@ -55,7 +27,6 @@ pub const MOST_ROLLS: u8 = 33;
 pub struct Board<'a> {
     bytes: &'a [u8],
     header: BoardHeader,
-    ranks: &'a RankTable,
 }
 
 // Clauses see the bytes.
@@ -68,21 +39,19 @@ impl<'a> Model for Board<'a> {
     ghost view = { λ board. board.bytes.now };
 
     ghost invariant = { λ board.
-        IsOpenedBoard board.bytes.now board.header board.ranks.now };
+        IsOpenedBoard board.bytes.now board.header };
 }
 
 impl<'a> Board<'a> {
     /// The board file of bytes that were accepted before, by what was kept of that.
-    pub fn kept(bytes: &'a [u8], accepted: Accepted, ranks: &'a RankTable) -> Board<'a>
+    pub(crate) fn kept(bytes: &'a [u8], accepted: Accepted) -> Board<'a>
         requires right { IsRightBoard bytes.now }
         requires bound { accepted.bound ≡ bound_of bytes.now }
-        requires table { IsRankTable ranks.now }
         ensures { result ≡ bytes.now }
     {
         Board {
             bytes,
             header: BoardHeader::new(accepted.bound).unwrap(),
-            ranks,
         }
     }
 
@@ -93,20 +62,6 @@ impl<'a> Board<'a> {
         ensures range { result ≤ 90 }
     {
         self.header.bound
-    }
-
-    /// How many positions the board file has: those of at most the bound.
-    pub fn positions(&self) -> u16
-        ensures { result ≡ count_to (bound_of self.now) }
-    {
-        self.header.count
-    }
-
-    /// The table of ranks.
-    pub fn ranks(&self) -> &'a RankTable
-        ensures { IsRankTable result.now }
-    {
-        self.ranks
     }
 
     /// The bytes, with what places in them are found by.
@@ -120,183 +75,89 @@ impl<'a> Board<'a> {
         }
     }
 
-    /// The record of a position of at most the bound, whose rank is known.
-    fn record_ranked(&self, position: &Position, rank: u16) -> Option<BoardRecord<'a>>
-        requires within { pips_of position.now ≤ bound_of self.now }
-        requires rank { rank ≡ rank_of position.now }
+    /// The record of a rank that the file has.
+    fn record_at(&self, rank: u16) -> Option<BoardRecord<'a>>
+        requires { rank < count_to (bound_of self.now) }
         ensures some { IsSome result }
         ensures record { IfSome result (λ seen. seen ≡ record {
-          pips = pips_of position.now;
-          bytes = board_record self.now (rank_of position.now);
+          pips = pips_of (at_rank rank);
+          bytes = board_record self.now rank;
         }) }
-        ensures position { IsPosition position.now }
     {
-        let _pips = position.pips();
         self.lent().record_at(rank)
     }
 
-    /// The least mean number of rolls of a position of at most the bound over all strategies, also
-    /// those that look at the history, as a numerator over 36 ^ 33.
-    pub fn mean(&self, position: &Position) -> Option<BoardMean>
-        requires { pips_of position.now ≤ bound_of self.now }
+    /// The mean of the position of a rank that the file has.
+    pub fn mean(&self, rank: u16) -> Option<BoardMean>
+        requires { rank < count_to (bound_of self.now) }
         ensures some { IsSome result }
-        ensures least { IfSome result (IsLeastIn 33 position.now) }
-        ensures recorded { IfSome result (λ mean.
-            mean ≡ mean_in (board_book self.now) position.now) }
+        ensures recorded { IfSome result (λ mean. mean ≡ (board_book self.now).means rank) }
     {
         let _bound = self.bound();
-        let _pips = position.pips();
-        self.mean_ranked(position, self.ranks.rank(position))
-    }
-
-    /// How the number of rolls of a position of at most the bound is spread where each play is the
-    /// recorded one: for k from 0 to 33 of the sequences of k throws those that end the game with
-    /// the last one. The share of exactly k rolls is that over 36 ^ k.
-    pub fn counts(&self, position: &Position) -> Option<[LongCount; 34]>
-        requires { pips_of position.now ≤ bound_of self.now }
-        ensures some { IsSome result }
-        ensures endings { IfSome result (λ counts. (k : ℕ) → k ≤ 33
-            → slice_index counts k ≡ endings (follow_in (board_book self.now) 33 position.now) k) }
-        ensures recorded { IfSome result (λ counts. (k : ℕ) → k ≤ 33
-            → slice_index counts k ≡ count_at self.now (rank_of position.now) k) }
-        ensures within { IfSome result (λ counts. (k : ℕ) → k ≤ 33
-            → slice_index counts k ≤ 36 ^ k) }
-    {
-        let _bound = self.bound();
-        let stored = self.record_ranked(position, self.ranks.rank(position))?;
-        let pips = position.pips();
-        let mut counts = [LongCount::NONE; 34];
-        for k in 0..34 {
-            counts[usize::from(k)] = count_in(&stored, pips, k)?;
-        }
-        Some(counts)
-    }
-
-    /// The recorded play of a roll from a position of at most the bound, and the position that it
-    /// leads to.
-    pub fn play(&self, position: &Position, roll: Roll) -> Option<(Play, Position)>
-        requires { pips_of position.now ≤ bound_of self.now }
-        ensures some { IsSome result }
-        ensures recorded { IfSome result (λ answer.
-            answer.1 ≡ recorded_in (board_book self.now) position.now roll) }
-        ensures first { IfSome result (λ answer.
-            IsFirstPlay position.now roll answer.1 (moves_of answer.0.items)) }
-        ensures legal { IfSome result (λ answer. Legal position.now roll answer.1) }
-    {
-        turns::play(self, position, roll)
-    }
-
-    /// What a result of a roll costs from a position of at most the bound, as a numerator over
-    /// 36 ^ 33: the mean number of rolls after it less the least such mean among all results.
-    pub fn loss(&self, position: &Position, roll: Roll, to: &Position) -> Option<BoardMean>
-        requires within { pips_of position.now ≤ bound_of self.now }
-        requires legal { Legal position.now roll to.now }
-        ensures some { IsSome result }
-        ensures recorded { IfSome result (λ lost.
-            lost ≡ loss_in (board_book self.now) position.now roll to.now) }
-        ensures lost { IfSome result (IsLossIn 33 position.now roll to.now) }
-    {
-        laws::law_loss();
-        let _bound = self.bound();
-        let _pips = position.pips();
-        turns::loss(self, position, roll, to)
-    }
-
-    /// Every result of a roll from a position of at most the bound once, by rising loss and then by
-    /// rising rank, each with its rank and its loss.
-    // so that its room is not part of its caller's
-    #[inline(never)]
-    pub fn moves(
-        &self,
-        position: &Position,
-        roll: Roll,
-    ) -> Option<ArrayVec<RankedChoice<BoardMean>, MOST_RESULTS>>
-        requires { pips_of position.now ≤ bound_of self.now }
-        ensures some { IsSome result }
-        ensures listed { IfSome result (λ choices. IsMoveListIn (board_book self.now)
-            position.now roll (map result_of choices.items)) }
-        ensures losses { IfSome result (λ choices. All (λ choice. choice.loss
-            ≡ loss_in (board_book self.now) position.now roll choice.to) choices.items) }
-        ensures ranks { IfSome result (λ choices. All (λ choice. choice.rank
-            ≡ rank_of choice.to) choices.items) }
-    {
-        let mut choices = ArrayVec::new();
-        list(self, position, roll, &mut choices)?;
-        Some(choices)
-    }
-
-    /// Makes a text the reply to a line, which comes without its line feed, as the text does: what
-    /// the file says, or why the line is refused.
-    pub fn answer(&self, line: &[u8], text: &mut BoardText) -> Option<()>
-        ensures some { IsSome result }
-        ensures reply { IsReplyIn (board_book self.now) line.now (text.new.bytes ++ 10 ∷ []) }
-        ensures len { array_string_len text.new ≤ 16642 }
-    {
-        answer(self, line, text)
-    }
-}
-
-/// What a board file says is its book.
-impl<'a> Lent for Board<'a> {
-    type Mean = BoardMean;
-
-    ghost bytes = { λ board. board };
-
-    ghost said = { board_book };
-
-    ghost book = { board_book };
-
-    fn bound(&self) -> u8 {
-        Board::bound(self)
-    }
-
-    fn ranks(&self) -> &RankTable {
-        self.ranks
-    }
-
-    fn mean_ranked(&self, position: &Position, rank: u16) -> Option<BoardMean> {
-        let _bound = Board::bound(self);
-        let mean = self.record_ranked(position, rank)?.mean();
+        let mean = self.record_at(rank)?.mean();
         BoardMean::new(mean.upper, mean.lower)
     }
 
-    fn recorded(&self, position: &Position, roll: Roll) -> Option<u16> {
-        let stored = self.record_ranked(position, self.ranks.rank(position))?;
-        Some(stored.play(roll))
+    /// The rank to which the recorded play of a roll leads from the position of a rank.
+    pub fn play(&self, rank: u16, roll: Roll) -> Option<u16>
+        requires { rank < count_to (bound_of self.now) }
+        ensures some { IsSome result }
+        ensures recorded { IfSome result (λ to.
+            to ≡ (board_book self.now).plays rank (roll_index roll)) }
+    {
+        Some(self.record_at(rank)?.play(roll))
     }
-}
 
-/// Its shares and its lists, as texts.
-impl<'a> Replies<16896> for Board<'a> {
-    fn has_room()
-        ensures { 254 * 58 + 1911 ≤ 16896 }
-    {}
+    /// The shares of 0 to 33 rolls of the position of a rank that the file has: of the sequences of
+    /// k throws those that end the game with the last one, each of which goes on with any throws.
+    pub fn shares(&self, rank: u16) -> Option<[Wide; 34]>
+        requires { rank < count_to (bound_of self.now) }
+        ensures some { IsSome result }
+        ensures len { IfSome result (λ shares. length shares ≡ 34) }
+        ensures recorded { IfSome result (λ shares. (k : ℕ) → k ≤ 33
+            → slice_index shares k ≡ (board_book self.now).shares rank k) }
+    {
+        let _bound = self.bound();
+        let stored = self.record_at(rank)?;
+        let pips = self.lent().pips_at(rank);
+        let mut shares = [Wide::of(0); 34];
+        for k in 0..34 {
+            shares[usize::from(k)] = count_in(&stored, pips, k)?.share(k).numerator();
+        }
+        Some(shares)
+    }
 
-    // so that its room is not part of its caller's
-    #[inline(never)]
-    fn put_dist(&self, position: &Position, text: &mut BoardText) -> Option<()> {
-        let counts = self.counts(position)?;
-        put_dist::<BoardMean, 16896>(text, &counts);
+    /// Makes a text the shares of the position of a rank that the file has.
+    pub fn put_dist(&self, rank: u16, text: &mut Text) -> Option<()>
+        requires { rank < count_to (bound_of self.now) }
+        ensures some { IsSome result }
+        ensures text { IsDistReplyOver board_whole 33 ((board_book self.now).shares rank)
+            text.new.bytes }
+        ensures len { array_string_len text.new ≤ 4152 }
+    {
+        let _bound = self.bound();
+        let stored = self.record_at(rank)?;
+        let pips = self.lent().pips_at(rank);
+        put_dist_word(text);
+        for k in 0..34 {
+            let count = count_in(&stored, pips, k)?;
+            if !count.is_none() {
+                push_share(text, board_share(count, k), k);
+            }
+        }
         Some(())
     }
-
-    // so that its room is not part of its caller's
-    #[inline(never)]
-    fn put_moves(&self, position: &Position, roll: Roll, text: &mut BoardText) -> Option<()> {
-        put_list(self, position, roll, &mut ArrayVec::new(), text)
-    }
 }
 
-/// The count of k throws that a record of a position of so many pips tells, where it is written in
-/// the one way that is allowed.
+/// The count of k throws that a record of a position of so many pips tells; none only where there
+/// are more than 36 ^ k, or it is not written in the one way that is allowed.
 fn count_in(stored: &BoardRecord, pips: u8, k: u8) -> Option<LongCount>
     requires few { k ≤ 33 }
     requires pips { pips ≡ stored.now.pips }
     requires low { pips ≤ 90 }
-    requires written { 11 < k → k ≤ most_rolls pips →
-        (count_parts stored.now.bytes k).lower < part }
-    requires within { told_count pips stored.now.bytes k ≤ 36 ^ k }
-    ensures some { IsSome result }
+    ensures some { told_count pips stored.now.bytes k ≤ 36 ^ k → (11 < k → k ≤ most_rolls pips
+        → (count_parts stored.now.bytes k).lower < part) → IsSome result }
+    ensures within { IfSome result (λ count. count ≤ 36 ^ k) }
     ensures value { IfSome result (λ count. count ≡ told_count pips stored.now.bytes k) }
 {
     if k == 0 {
@@ -308,7 +169,21 @@ fn count_in(stored: &BoardRecord, pips: u8, k: u8) -> Option<LongCount>
     let parts = stored.count(k);
     if k <= 11 {
         Some(ShortCount::new(k, parts.lower)?.long())
-    } else {
+    } else if is_within(&parts, k) {
         LongCount::new(MOST_ROLLS, parts.upper, parts.lower)
+    } else {
+        None
     }
+}
+
+/// Whether a count in two parts is at most 36 ^ k, k from 12 to 33.
+#[tactic(auto, using(crate::proofs::Counts::power_of_upper))]
+fn is_within(count: &Parts, k: u8) -> bool
+    requires many { 12 ≤ k }
+    requires few { k ≤ 33 }
+    ensures { count.now.lower < part
+        → IsTrue result ↔ (count.now.upper * part + count.now.lower ≤ 36 ^ k) }
+{
+    let most = 36u128.pow(u32::from(k - 11));
+    count.upper < most || (count.upper == most && count.lower == 0)
 }

@@ -2,7 +2,7 @@ use Rattle.std.proofs.Common.{◌≡◌, ℕ, ◌+◌, List, [], ◌∷◌, ◌+
 use Rattle.std.proofs.Common.{Err, ap, sym, ◌∙◌, arith, rules}
 use Rattle.std.proofs.lemmas.Bool.{eqb-true}
 use Rattle.std.proofs.lemmas.List.{length-drop, take_rest}
-use Rattle.race_model.specs.InputLines.{whole_lines}
+use Rattle.race_model.specs.Prelude.{whole_lines}
 use Rattle.certificate.proofs.Databases.{stays_more}
 use Rattle.epc_query.proofs.Runs.{piece_joined, piece_rest, chunk_parts, stopped_before, none_of_length}
 use Rattle.epc_query.proofs.Runs.{line_ended, line_stopped, rest_more, bytes_kept, flushed_answers, failed_flush}

@@ -1,5 +1,5 @@
 use Rattle.std.proofs.Common.{◌≡◌, ◌+◌, ◌-◌, ◌≤◌, ℕ, List, ◌++◌, take, length, Option}
-use Rattle.race_model.specs.InputLines.{whole_lines}
+use Rattle.race_model.specs.Prelude.{whole_lines}
 use Rattle.db_reader.specs.Telling.{WhereTold}
 use Rattle.certificate.specs.Databases.{Stays}
 use Rattle.epc_query.specs.Runs.{IsAnswered}

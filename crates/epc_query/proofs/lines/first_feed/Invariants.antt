@@ -1,5 +1,5 @@
 use Rattle.std.proofs.Common.{take}
-use Rattle.race_model.specs.InputLines.{HasNoFeed}
+use Rattle.race_model.specs.Prelude.{HasNoFeed}
 use Rattle.epc_query.proofs.lines.first_feed.Given as goal
 
 -- no line feed stands before this place

@@ -1,5 +1,5 @@
 use Rattle.std.proofs.Common.{◌≡◌, Err, rules}
-use Rattle.race_model.specs.InputLines.{lines_of}
+use Rattle.race_model.specs.Prelude.{lines_of}
 use Rattle.epc_query.specs.declared.run_fault.RunFault.TheVariants.{Write}
 use Rattle.epc_query.proofs.Runs.{flushed, failed_flush}
 use Rattle.epc_query.proofs.running.answer_end.Goals as goal

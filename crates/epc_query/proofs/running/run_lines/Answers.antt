@@ -1,6 +1,6 @@
 use Rattle.std.proofs.Common.{◌≡◌, ◌++◌, length, take, Err, ap, subst, ◌∙◌, arith, rules}
 use Rattle.std.proofs.lemmas.List.{length-take}
-use Rattle.race_model.specs.InputLines.{lines_of}
+use Rattle.race_model.specs.Prelude.{lines_of}
 use Rattle.certificate.proofs.Databases.{stays_more}
 use Rattle.std.specs.Io.KnownBytes.{IsAtEnd}
 use Rattle.epc_query.specs.declared.run_fault.RunFault.TheVariants.{Turns}

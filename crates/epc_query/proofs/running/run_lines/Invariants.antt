@@ -1,6 +1,6 @@
 use Rattle.std.proofs.Common.{◌≡◌, ◌+◌, ◌*◌, ◌≤◌, ℕ, List, length, Some, false}
 use Rattle.std.specs.Io.KnownBytes.{Consumes}
-use Rattle.race_model.specs.InputLines.{whole_lines}
+use Rattle.race_model.specs.Prelude.{whole_lines}
 use Rattle.db_reader.specs.Telling.{WhereTold}
 use Rattle.certificate.specs.Databases.{Stays}
 use Rattle.epc_query.specs.Runs.{IsAnswered}

@@ -1,4 +1,4 @@
-use Rattle.std.proofs.Common.{arith}
+use Rattle.std.proofs.Common.{arith, rules}
 use Rattle.fixed_fraction.proofs.TwoParts.{power_within}
 use Rattle.race_model.proofs.RightFiles.CountParts.{told_some}
 use Rattle.db_layout.proofs.KnownRecords.{count-one}
@@ -10,9 +10,16 @@ returns-in_ok-new-2-clause-value c =
     let none = count-one c.args.stored.now.bytes c.args.k c.if-k-le11.true in
     omega (arith, told, none, (c.in_ok-new-2.ensures {u = tt}).value)
 
-pub returns-else-k-le11-clause-some : goal.returns-else-k-le11-clause-some
-returns-else-k-le11-clause-some c =
+pub returns-then-is_within-clause-some : goal.returns-then-is_within-clause-some
+returns-then-is_within-clause-some c most written =
     let told = told_some c.args.pips c.args.k c.args.stored.now.bytes (omega arith) (omega arith) in
-    let most = power_within c.args.k 33 c.requires.few in
-    let written = c.requires.written (omega arith) (omega arith) in
-    c.new-else-k-le11.ensures.some.1 (omega (arith, told, most, written, c.requires.within))
+    let power = power_within c.args.k 33 c.requires.few in
+    c.new-then-is_within.ensures.some.1
+    (omega (arith, told, power, most, written (omega arith) (omega arith)))
+
+pub returns-else-is_within-clause-some : goal.returns-else-is_within-clause-some
+returns-else-is_within-clause-some c most written =
+    let told = told_some c.args.pips c.args.k c.args.stored.now.bytes (omega arith) (omega arith) in
+    let lower = written (omega arith) (omega arith) in
+    let within = (c.is_within.ensures (omega (arith, lower))).1 (omega (arith, told, most)) in
+    absurd (search rules)

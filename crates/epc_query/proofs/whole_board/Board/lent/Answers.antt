@@ -1,5 +1,5 @@
 use Rattle.std.proofs.Common.{ap, arith}
-use Rattle.race_model.specs.BoardFiles.{board_place}
+use Rattle.race_model.specs.Prelude.{board_place}
 use Rattle.epc_query.proofs.BoardKnown.{known_length}
 use Rattle.epc_query.proofs.whole_board.Board.lent.Goals as goal
 
