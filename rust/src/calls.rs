@@ -2,6 +2,8 @@
 
 pub const OK: u32 = 0;
 pub const BAD_TEXT: u32 = 11;
+pub const SAME_POINT: u32 = 32;
+pub const OTHER_OUTSIDE: u32 = 36;
 pub const LINE: usize = 32;
 pub const STATUS_TEXT: usize = 80;
 pub const RESULTS: usize = 127;
@@ -14,6 +16,17 @@ pub const RANKS: usize = 6 * 16 * 91 + 92;
 #[derive(Clone, Copy, Default)]
 pub struct Counts {
     pub points: [u8; 6],
+}
+
+#[repr(C)]
+#[derive(Clone, Copy, Default)]
+pub struct Race {
+    pub mine: Counts,
+    pub theirs: Counts,
+    pub has_theirs: bool,
+    pub high: u8,
+    pub low: u8,
+    pub on_roll: u8,
 }
 
 /// A number of three words, the greatest first.
@@ -80,7 +93,7 @@ pub struct Play {
 
 #[repr(C)]
 #[derive(Clone, Copy, Default)]
-pub struct Stand {
+pub struct Info {
     pub pips: u8,
     pub checkers: u8,
     pub off: u8,
@@ -198,8 +211,13 @@ extern "C" {
         to: *const Counts,
         play: *mut Play,
     ) -> u32;
-    pub fn bearoff_parse_position(text: *const u8, length: usize, position: *mut Counts) -> u32;
-    pub fn bearoff_standing(position: *const Counts, standing: *mut Stand) -> u32;
+    pub fn bearoff_read_position(
+        text: *const u8,
+        length: usize,
+        race: *mut Race,
+        place: *mut u8,
+    ) -> u32;
+    pub fn bearoff_position_info(position: *const Counts, info: *mut Info) -> u32;
 }
 
 /// The struct has the bytes that the header says.

@@ -38,15 +38,17 @@ impl Whole {
         self == Whole::default()
     }
 
-    /// The double that is nearest to it, and of two that are as near the even one.
-    pub fn as_f64(self) -> f64 {
-        nearest(self, Whole([0, 0, 1]))
-    }
-
     /// How many binary digits it has.
     fn bits(self) -> u32 {
         let first = self.0.iter().position(|word| *word != 0).unwrap_or(2);
         64 * (3 - first as u32) - self.0[first].leading_zeros()
+    }
+}
+
+/// The nearest double, and of two that are as near the even one.
+impl From<Whole> for f64 {
+    fn from(number: Whole) -> f64 {
+        nearest(number, Whole([0, 0, 1]))
     }
 }
 
@@ -160,10 +162,12 @@ impl Fraction {
     pub fn denominator(&self) -> Whole {
         self.denominator
     }
+}
 
-    /// The double that is nearest to it, and of two that are as near the even one.
-    pub fn as_f64(&self) -> f64 {
-        nearest(self.numerator, self.denominator)
+/// The nearest double, and of two that are as near the even one.
+impl From<Fraction> for f64 {
+    fn from(fraction: Fraction) -> f64 {
+        nearest(fraction.numerator, fraction.denominator)
     }
 }
 
@@ -201,7 +205,7 @@ fn product(one: Whole, other: Whole) -> [u64; 6] {
 impl fmt::Display for Fraction {
     fn fmt(&self, formatter: &mut fmt::Formatter<'_>) -> fmt::Result {
         if formatter.precision().is_some() {
-            return self.as_f64().fmt(formatter);
+            return f64::from(*self).fmt(formatter);
         }
         if self.denominator == Whole([0, 0, 1]) {
             return self.numerator.fmt(formatter);

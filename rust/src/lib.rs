@@ -1,4 +1,4 @@
-//! Exact answers of a proved backgammon bearoff database.
+//! Exact, formally verified bearoff tables for backgammon.
 //!
 //! A database is the bytes of a file that `bearoff build` writes, or what [`Database::build`]
 //! makes. It is checked when it is opened, and accepted exactly where it is right: every mean in
@@ -31,6 +31,7 @@ mod fraction;
 pub use fraction::{Fraction, Whole};
 
 use std::borrow::Cow;
+use std::cmp::Ordering;
 use std::fmt;
 use std::fs::File;
 use std::io::{self, Read};
@@ -55,6 +56,10 @@ impl Position {
 
     fn counts(self) -> calls::Counts {
         calls::Counts { points: self.points }
+    }
+
+    fn pips(self) -> u32 {
+        (1..).zip(self.points).map(|(point, count)| point * u32::from(count)).sum()
     }
 
     /// The position that moves lead to, as a player writes them: `4/2 2/1`, `6/off(2)` or `6/4/3`,
@@ -110,6 +115,20 @@ fn point(text: &str) -> Option<usize> {
     }
 }
 
+/// By rising rank: fewer pips first, and of as many pips the smaller counts, that of the ace point
+/// first.
+impl Ord for Position {
+    fn cmp(&self, other: &Position) -> Ordering {
+        (self.pips(), self.points).cmp(&(other.pips(), other.points))
+    }
+}
+
+impl PartialOrd for Position {
+    fn partial_cmp(&self, other: &Position) -> Option<Ordering> {
+        Some(self.cmp(other))
+    }
+}
+
 impl From<[u8; 6]> for Position {
     fn from(points: [u8; 6]) -> Position {
         Position::new(points)
@@ -123,19 +142,64 @@ impl fmt::Display for Position {
     }
 }
 
-/// Six counts with commas between them, each of one to three digits, the first of several not 0,
-/// and nothing else. Refused where they add up to more than 15.
+/// The position of the player on roll, of any text that is a [`Race`].
 impl FromStr for Position {
     type Err = Error;
 
     fn from_str(text: &str) -> Result<Position, Error> {
-        let counts = answered(calls::Counts::default(), |it| unsafe {
-            calls::bearoff_parse_position(text.as_ptr(), text.len(), it)
-        });
-        match counts {
-            Ok(counts) => Ok(Position::new(counts.points)),
-            Err(Error::Refused { status: calls::BAD_TEXT }) => Err(Error::BadText),
-            Err(error) => Err(error),
+        text.parse().map(|race: Race| race.mine)
+    }
+}
+
+/// A player, by where that one sits.
+#[derive(Clone, Copy, Debug, PartialEq, Eq, Hash)]
+pub enum Player {
+    /// The one at the bottom of the board, whose checkers an XGID has as capitals.
+    Bottom,
+    /// The one at the top.
+    Top,
+}
+
+/// A race in the home boards, as far as a text tells it.
+#[derive(Clone, Copy, Debug, PartialEq, Eq, Hash)]
+pub struct Race {
+    /// The checkers of the player on roll.
+    pub mine: Position,
+    /// Those of the other player.
+    pub theirs: Option<Position>,
+    /// The dice, the greater one first.
+    pub roll: Option<Roll>,
+    /// Who is on roll.
+    pub on_roll: Option<Player>,
+}
+
+/// An XGID, a Position ID of GNU Backgammon, alone or with a Match ID, or six counts with commas
+/// between them, with blanks around. Of the cube, the score and the match it is only asked that
+/// they are numbers. Refused as [`Error::BadText`], as status 3 of more than 15 checkers, and as
+/// [`Error::NotARace`].
+impl FromStr for Race {
+    type Err = Error;
+
+    fn from_str(text: &str) -> Result<Race, Error> {
+        let (mut race, mut place) = (calls::Race::default(), 0);
+        // the text has as many bytes, and the library writes the two others
+        let status = unsafe {
+            calls::bearoff_read_position(text.as_ptr(), text.len(), &mut race, &mut place)
+        };
+        match status {
+            calls::OK => Ok(Race {
+                mine: Position::new(race.mine.points),
+                theirs: Some(Position::new(race.theirs.points)).filter(|_| race.has_theirs),
+                roll: Some(Roll::new(race.high, race.low)).filter(|roll| roll.one > 0),
+                on_roll: match race.on_roll {
+                    1 => Some(Player::Bottom),
+                    2 => Some(Player::Top),
+                    _ => None,
+                },
+            }),
+            calls::BAD_TEXT => Err(Error::BadText),
+            calls::SAME_POINT..=calls::OTHER_OUTSIDE => Err(Error::NotARace { status, place }),
+            _ => Err(Error::Refused { status }),
         }
     }
 }
@@ -156,12 +220,13 @@ impl Roll {
     }
 }
 
-/// Two dice, as in `21` or `2-1`. Whether a die is 1 to 6 is told where the roll is played.
+/// Two dice, as in `21` or `2-1`, with blanks around. Whether a die is 1 to 6 is told where the
+/// roll is played.
 impl FromStr for Roll {
     type Err = Error;
 
     fn from_str(text: &str) -> Result<Roll, Error> {
-        match text.as_bytes() {
+        match text.trim().as_bytes() {
             &[one @ b'0'..=b'9', other @ b'0'..=b'9']
             | &[one @ b'0'..=b'9', b'-', other @ b'0'..=b'9'] => {
                 Ok(Roll::new(one - b'0', other - b'0'))
@@ -220,8 +285,9 @@ pub struct Choice {
     pub loss: Fraction,
 }
 
-/// An effective pip count, in pips: 49/6 for each roll of the mean.
-#[derive(Clone, Copy, Debug, PartialEq, Eq, Hash)]
+/// An effective pip count, in pips: 49/6 for each roll of the mean. As a text, and as a double, it
+/// is what its exact number is.
+#[derive(Clone, Copy, Debug, PartialEq, Eq, PartialOrd, Ord, Hash)]
 pub struct EffectivePips {
     /// The exact number.
     pub exact: Fraction,
@@ -229,9 +295,21 @@ pub struct EffectivePips {
     pub thousandths: u64,
 }
 
+impl From<EffectivePips> for f64 {
+    fn from(pips: EffectivePips) -> f64 {
+        pips.exact.into()
+    }
+}
+
+impl fmt::Display for EffectivePips {
+    fn fmt(&self, formatter: &mut fmt::Formatter<'_>) -> fmt::Result {
+        self.exact.fmt(formatter)
+    }
+}
+
 /// What a position stands at.
 #[derive(Clone, Copy, Debug, PartialEq, Eq, Hash)]
-pub struct Standing {
+pub struct PositionInfo {
     /// Its pip count, 0 to 90.
     pub pips: u8,
     /// Its checkers, 0 to 15.
@@ -244,15 +322,24 @@ pub struct Standing {
 #[derive(Clone, Debug, PartialEq, Eq)]
 #[non_exhaustive]
 pub enum Error {
-    /// The bytes are no right database; the line names their first fault, as in `mean rank 1`.
+    /// The bytes failed verification; the line names the first fault, such as `mean rank 1`.
     Damaged {
         /// The status of the library, 16 to 27.
         status: u32,
         /// The line of the fault.
         line: String,
     },
-    /// The text is not six counts with commas between them.
+    /// The text is no XGID, no ID of GNU Backgammon and not six counts.
     BadText,
+    /// What the text tells is no race in the home boards.
+    NotARace {
+        /// The status of the library: 32 where both players have a checker on a point, 33 where one
+        /// is on the bar, 34 where the player on roll has one outside the home board, 35 where the
+        /// other player has one behind one of these, 36 where the other one has one outside.
+        status: u32,
+        /// The point, or of a bar whose it is, 1 for the player on roll.
+        place: u8,
+    },
     /// The text is not two dice, as in `21` or `2-1`.
     BadRoll,
     /// The text is no moves, as in `4/2 2/1`, or none that can be made from the position.
@@ -274,13 +361,24 @@ pub enum Error {
     },
     /// A thread, in which a database is opened or built, can't be had.
     NoThread,
+    /// The library that is linked is of a version that this crate can't use.
+    OtherLibrary {
+        /// Its version, as [`library_version`] tells it.
+        version: String,
+    },
 }
 
 impl fmt::Display for Error {
     fn fmt(&self, formatter: &mut fmt::Formatter<'_>) -> fmt::Result {
         match self {
-            Error::Damaged { line, .. } => write!(formatter, "no right database: {}", line),
-            Error::BadText => formatter.write_str("not six counts with commas between them"),
+            Error::Damaged { line, .. } => write!(formatter, "not a valid database: {}", line),
+            Error::BadText => {
+                formatter.write_str("neither an XGID, an ID of GNU Backgammon nor six counts")
+            }
+            Error::NotARace { status: 33, .. } => formatter.write_str(&status_text(33)),
+            Error::NotARace { status, place } => {
+                write!(formatter, "{}, point {}", status_text(*status), place)
+            }
             Error::BadRoll => formatter.write_str("not two dice, as in 21 or 2-1"),
             Error::BadPlay => formatter.write_str("no moves that can be made, as in 4/2 2/1"),
             Error::Unreadable { path, kind } => {
@@ -288,6 +386,10 @@ impl fmt::Display for Error {
             }
             Error::Refused { status } => formatter.write_str(&status_text(*status)),
             Error::NoThread => formatter.write_str("there is no thread to open a database in"),
+            Error::OtherLibrary { version } => {
+                let own = env!("CARGO_PKG_VERSION");
+                write!(formatter, "libbearoff is of version {}, and this crate of {}", version, own)
+            }
         }
     }
 }
@@ -351,6 +453,10 @@ impl<'a> Database<'a> {
     /// 44 pips. They are bytes that are lent, or a `Vec` of the database's own.
     pub fn open(bytes: impl Into<Cow<'a, [u8]>>) -> Result<Database<'a>, Error> {
         let bytes = bytes.into();
+        let version = library_version();
+        if !is_enough(&version, env!("CARGO_PKG_VERSION")) {
+            return Err(Error::OtherLibrary { version });
+        }
         let mut opened = calls::Opened::closed();
         let (mut line, mut needed) = ([0; calls::LINE], 0);
         let lent = Lent((&mut *opened, &bytes[..], &mut line, &mut needed));
@@ -397,12 +503,12 @@ impl<'a> Database<'a> {
     }
 
     /// What its means and shares are numerators over: 36^22, or 36^33 of a board file.
-    pub fn whole(&self) -> Whole {
+    pub fn denominator(&self) -> Whole {
         Whole::power_of_36(u32::from(self.about.rolls))
     }
 
     fn over_whole(&self, words: calls::Words) -> Fraction {
-        Fraction::over_power_of_36(Whole(words), self.whole())
+        Fraction::over_power_of_36(Whole(words), self.denominator())
     }
 
     /// The least mean number of rolls until all checkers are off, over all strategies.
@@ -430,6 +536,15 @@ impl<'a> Database<'a> {
         let shares = self.asked([[0; 3]; 34], position, calls::bearoff_distribution)?;
         let count = usize::from(self.about.rolls) + 1;
         Ok(shares.iter().take(count).map(|share| self.over_whole(*share)).collect())
+    }
+
+    /// The standard deviation of the number of rolls, by the recorded plays.
+    pub fn standard_deviation(&self, position: Position) -> Result<f64, Error> {
+        let shares = self.distribution(position)?;
+        let rolls = || (0..).map(f64::from).zip(shares.iter().copied().map(f64::from));
+        let mean: f64 = rolls().map(|(rolls, share)| rolls * share).sum();
+        let variance: f64 = rolls().map(|(rolls, share)| (rolls - mean).powi(2) * share).sum();
+        Ok(variance.sqrt())
     }
 
     /// The chance of being off in at most so many rolls, by the recorded plays.
@@ -526,12 +641,12 @@ impl<'a> Database<'a> {
         Ok(all.into_iter().map(EffectivePips::from).collect())
     }
 
-    /// The distributions of all positions, by rising rank, each as [`Database::distribution`]
-    /// tells it: numerators over [`Database::whole`], 23 for each position or, of a board file, 34.
-    pub fn distributions(&self) -> Result<Vec<Vec<Whole>>, Error> {
+    /// The distributions of all positions, by rising rank: the chances of being off in exactly 0 to
+    /// 33 rolls, as numerators over [`Database::denominator`]. Over 22 rolls they are 0 except in a
+    /// board file.
+    pub fn distributions(&self) -> Result<Vec<[Whole; 34]>, Error> {
         let all = self.listed([[0; 3]; 34], calls::bearoff_listed_distributions)?;
-        let count = usize::from(self.about.rolls) + 1;
-        Ok(all.iter().map(|row| row[..count].iter().map(|it| Whole(*it)).collect()).collect())
+        Ok(all.into_iter().map(|row| row.map(Whole)).collect())
     }
 
     /// What a call lists of all ranks.
@@ -619,11 +734,11 @@ pub fn play_to(position: Position, roll: Roll, to: Position) -> Result<Play, Err
 }
 
 /// What a position stands at. Refused where it has more than 15 checkers.
-pub fn standing(position: Position) -> Result<Standing, Error> {
+pub fn position_info(position: Position) -> Result<PositionInfo, Error> {
     let of = position.counts();
     let stand =
-        answered(calls::Stand::default(), |it| unsafe { calls::bearoff_standing(&of, it) })?;
-    Ok(Standing { pips: stand.pips, checkers: stand.checkers, off: stand.off })
+        answered(calls::Info::default(), |it| unsafe { calls::bearoff_position_info(&of, it) })?;
+    Ok(PositionInfo { pips: stand.pips, checkers: stand.checkers, off: stand.off })
 }
 
 /// The version of the library that is linked, as `1.2.3`.
@@ -633,6 +748,15 @@ pub fn library_version() -> String {
         calls::bearoff_library_version(&mut major, &mut minor, &mut patch);
     }
     format!("{}.{}.{}", major, minor, patch)
+}
+
+/// Whether a library of one version has all that a crate of another one calls.
+fn is_enough(library: &str, own: &str) -> bool {
+    let numbers = |version: &str| -> Vec<u32> {
+        version.split('.').map(|number| number.parse().unwrap_or(0)).collect()
+    };
+    let (library, own) = (numbers(library), numbers(own));
+    library[0] == own[0] && library >= own
 }
 
 impl From<calls::Fraction> for Fraction {

@@ -1,6 +1,7 @@
 //! What each call answers, beside the library's replies to lines, over a database and a board file.
 
-use bearoff::{library_version, play_to, standing, Database, Error, Position, Roll, Whole};
+use bearoff::{library_version, play_to, position_info};
+use bearoff::{Database, Error, Position, Race, Roll, Whole};
 
 fn files() -> [Database<'static>; 2] {
     [Database::build(8).unwrap(), Database::build(60).unwrap()]
@@ -48,7 +49,7 @@ fn of_each_position_what_its_lines_say() {
                 rest
             );
             assert_eq!(database.answer(format!("mean {}", position)).unwrap(), reply);
-            let pips = i64::from(standing(position).unwrap().pips);
+            let pips = i64::from(position_info(position).unwrap().pips);
             assert_eq!(database.wastage(position).unwrap(), epc.thousandths as i64 - 1000 * pips);
             let shares = database.distribution(position).unwrap();
             let parts: String = (0..)
@@ -60,8 +61,12 @@ fn of_each_position_what_its_lines_say() {
                 database.answer(format!("dist {}", position)).unwrap(),
                 format!("dist{}", parts)
             );
-            let sum: f64 = shares.iter().map(|share| share.as_f64()).sum();
+            let sum: f64 = shares.iter().copied().map(f64::from).sum();
             assert!((sum - 1.0).abs() < 1e-12);
+            let squares: f64 =
+                (0..).zip(&shares).map(|(k, share)| f64::from(k * k) * f64::from(*share)).sum();
+            let variance = database.standard_deviation(position).unwrap().powi(2);
+            assert!((squares - f64::from(mean).powi(2) - variance).abs() < 1e-12);
             assert_eq!(database.within(position, 99).unwrap().to_string(), "1");
             assert_eq!(database.within(position, 0).unwrap(), shares[0]);
             let rank = database.rank(position).unwrap();
@@ -114,6 +119,7 @@ fn of_all_positions_what_each_says() {
     for database in files() {
         let every = database.positions().unwrap();
         assert_eq!(every.len(), database.position_count() as usize);
+        assert!(every.windows(2).all(|two| two[0] < two[1]));
         let (means, epcs) = (database.means().unwrap(), database.epcs().unwrap());
         let distributions = database.distributions().unwrap();
         // each of 64, and of a board file one in a hundred or so
@@ -123,10 +129,11 @@ fn of_all_positions_what_each_says() {
             assert_eq!(database.mean(*position), Ok(means[rank]));
             assert_eq!(database.epc(*position), Ok(epcs[rank]));
             let shares = database.distribution(*position).unwrap();
-            assert_eq!(shares.len(), distributions[rank].len());
-            for (share, numerator) in shares.iter().zip(&distributions[rank]) {
-                let chance = numerator.as_f64() / database.whole().as_f64();
-                assert!((share.as_f64() - chance).abs() < 1e-15);
+            let (told, over) = distributions[rank].split_at(shares.len());
+            assert!(over.iter().all(|numerator| f64::from(*numerator) == 0.0));
+            for (share, numerator) in shares.iter().zip(told) {
+                let chance = f64::from(*numerator) / f64::from(database.denominator());
+                assert!((f64::from(*share) - chance).abs() < 1e-15);
             }
         }
         assert_eq!(database.position(every.len() as u16), Err(Error::Refused { status: 10 }));
@@ -135,11 +142,11 @@ fn of_all_positions_what_each_says() {
 
 #[test]
 fn rolls_and_plays_from_texts() {
-    for (text, roll) in [("21", Roll::new(2, 1)), ("1-2", Roll::new(1, 2)), ("07", Roll::new(0, 7))] {
-        assert_eq!(text.parse(), Ok(roll));
+    for (text, one, other) in [("21", 2, 1), (" 1-2\n", 1, 2), ("07", 0, 7)] {
+        assert_eq!(text.parse(), Ok(Roll::new(one, other)));
     }
     assert_eq!(Roll::new(2, 1).to_string(), "21");
-    for text in ["", "2", "211", "2--1", " 21", "+2", "2,1", "\u{662}1"] {
+    for text in ["", "2", "211", "2--1", "2 1", "+2", "2,1", "\u{662}1"] {
         assert_eq!(text.parse::<Roll>(), Err(Error::BadRoll));
     }
     let database = Database::build(8).unwrap();
@@ -174,8 +181,8 @@ fn what_a_file_is() {
     let [database, board] = files();
     assert_eq!((database.version(), database.bound(), database.position_count()), (1, 8, 64));
     assert_eq!((board.version(), board.bound()), (3, 60));
-    assert_eq!(database.whole().to_string(), "17324272922341479351919144385642496");
-    assert!((board.whole().as_f64() / 36f64.powi(33) - 1.0).abs() < 1e-12);
+    assert_eq!(database.denominator().to_string(), "17324272922341479351919144385642496");
+    assert!((f64::from(board.denominator()) / 36f64.powi(33) - 1.0).abs() < 1e-12);
     assert_eq!(library_version(), env!("CARGO_PKG_VERSION"));
     assert_eq!(format!("{:?}", database), "Database { version: 1, bound: 8, positions: 64 }");
     let new = Database::open(database.upgrade().unwrap()).unwrap();
@@ -231,7 +238,7 @@ fn what_is_refused() {
     let mut changed = bytes.clone();
     changed[32 + 426 + 15] ^= 1;
     let told = Database::open(changed).map(|_| ()).unwrap_err();
-    assert_eq!(told.to_string(), "no right database: mean rank 1");
+    assert_eq!(told.to_string(), "not a valid database: mean rank 1");
     let (six, roll) = (Position::new([0, 0, 0, 0, 0, 1]), Roll::new(2, 1));
     let refused = |status| Err(Error::Refused { status });
     assert_eq!(database.mean(Position::new([16, 0, 0, 0, 0, 0])), refused(3));
@@ -249,6 +256,12 @@ fn what_is_refused() {
     assert_eq!("six".parse::<Position>(), Err(Error::BadText));
     assert_eq!("0,0,0,0,0,256".parse::<Position>(), Err(Error::Refused { status: 3 }));
     assert_eq!("0,0,0,0,0,1".parse(), Ok(six));
+    let outside = "4HPwATDgc/ABMA".parse::<Race>().unwrap_err();
+    assert_eq!(outside, Error::NotARace { status: 34, place: 24 });
+    let words = "the player on roll has a checker outside the home board, point 24";
+    assert_eq!(outside.to_string(), words);
+    let bar = "mAAAqB0PAAAAAA:cAkFAAAAAAAE".parse::<Race>().unwrap_err();
+    assert_eq!(bar.to_string(), "a checker is on the bar");
 }
 
 #[test]
@@ -257,7 +270,12 @@ fn numbers() {
     let mean = |text: &str| database.mean(text.parse().unwrap()).unwrap();
     let (one, six) = (mean("1,0,0,0,0,0"), mean("0,0,0,0,0,1"));
     assert_eq!((one.to_string(), six.to_string()), ("1".into(), "5/4".into()));
-    assert_eq!((one.as_f64(), six.as_f64()), (1.0, 1.25));
+    assert_eq!((f64::from(one), f64::from(six)), (1.0, 1.25));
+    let epc = database.epc(Position::new([0, 0, 0, 0, 0, 1])).unwrap();
+    assert_eq!(
+        format!("{} {:.3} {}", epc, epc, f64::from(epc) == 245.0 / 24.0),
+        "245/24 10.208 true"
+    );
     assert!(one < six && six > one);
     assert_eq!(format!("[{:>6}] [{:<5}]", six, one), "[   5/4] [1    ]");
     assert_eq!(

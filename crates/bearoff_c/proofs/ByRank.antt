@@ -4,8 +4,7 @@ use Rattle.std.proofs.Common.{arith, drop}
 use Rattle.std.proofs.lemmas.Bool.{cases_lt}
 use Rattle.std.proofs.lemmas.List.{get_or-set_other, drop_more}
 use Rattle.std.proofs.lemmas.Grind.{get_or-set_at}
-use Rattle.race_model.specs.Positions.{Board, IsPosition, pips}
-use Rattle.race_model.specs.Ranks.{rank, count_to}
+use Rattle.race_model.specs.Prelude.{Board, IsPosition, rank, count_to, Book, IsRightBook, IsRightIn}
 use Rattle.race_model.proofs.Ranks.RankOrder.{rank_bound}
 
 -- the first n items of a list say so of their positions
@@ -29,14 +28,14 @@ says_more n first items item Says low was is x i d at ranked under = by_cases (c
       subst (Says x) (sym (get_or-set_at items n i item d same low))
       (is x at (ranked ∙ ap (λ k. first + k) same))
 
--- a position of a rank that is listed has at most the bound's pips
-pub ranked_within : (bound first n i : ℕ) (x : Board) → IsPosition x → rank x ≡ first + i → i < n
-    → first + n ≤ count_to bound → pips x ≤ bound
-ranked_within bound first n i x at ranked under within =
-    (rank_bound x bound at).0 (omega (arith, ranked, under, within))
-
 -- the rest of a list doesn't change where one of its front is written
 pub rest_stays : {X : Type 0} (xs ys : List X) (i : _) (x d : X) → i < length xs → i < length ys →
     drop i xs ≡ drop i ys → drop (i + 1) xs ≡ drop (i + 1) ys
 rest_stays xs ys i x d low less e =
     ap (drop 1) (sym (drop_more xs i d low) ∙ e ∙ drop_more ys i d less)
+
+-- a position whose rank a right book has is right by it
+pub right_at : (b : Book) (r : ℕ) → IsRightBook b → r < count_to b.bound → (x : Board) →
+    IsPosition x → rank x ≡ r → IsRightIn b x
+right_at b r right under x at ranked =
+    right x at ((rank_bound x b.bound at).0 (subst (λ n. n < count_to b.bound) (sym ranked) under))

@@ -3,18 +3,16 @@ use Rattle.std.proofs.Common.{⊎_elim, ℕ, zero, suc, ◌≤◌, List, ◌≡�
 use Rattle.std.proofs.Math.Bridge.{le_prop}
 use Rattle.std.proofs.Math.Nat.{ℕ_set}
 use mathlib.Core.Logic.{∥∥₁_elim, ∥∥₁_map}
-use Rattle.race_model.specs.Positions.{Board}
-use Rattle.race_model.specs.Dice.{Throw}
-use Rattle.race_model.specs.Plays.{Legal}
-use Rattle.race_model.specs.Books.{Book, whole_in}
-use Rattle.race_model.specs.LocalEquations.{HasShareOver, IsLocalOver, whole, IsLocalDatabase}
-use Rattle.race_model.specs.Files.{IsFile, book_of, Layout, IsFileBy}
-use Rattle.race_model.specs.RightFiles.{IsRightDatabase, IsRightBoard}
+use Rattle.race_model.specs.Prelude.{Board, Throw, Legal, Book, whole_in, HasShareOver, IsLocalOver, whole}
+use Rattle.race_model.specs.Prelude.{IsLocalDatabase, IsFile, book_of, layout_of, version_of, Layout, IsFileBy}
+use Rattle.race_model.specs.Prelude.{IsRightDatabase, IsRightBoard, board_layout, board_book, IsLocalBoard}
 use Rattle.race_model.proofs.FirstFaults.Decisions.{legal_or_not, lists_same_or_not}
 use Rattle.race_model.proofs.RightFiles.Right.{right_of_local, local_of_right}
-use Rattle.race_model.specs.BoardFiles.{board_layout, board_book}
-use Rattle.race_model.specs.BoardEquations.{IsLocalBoard}
 use Rattle.race_model.proofs.Books.Boards.{right_board, local_board}
+use Rattle.db_layout.specs.declared.stated.Kind.{Kind}
+use Rattle.db_layout.specs.declared.stated.Kind.TheVariants.{Database as OfDatabase, Board as OfBoard}
+use Rattle.epc_query.specs.declared.opened.Accepted.{Accepted}
+use Rattle.epc_query.specs.Kinds.{IsAcceptedAs, IsRightAs}
 
 -- that a throw leads to a position can be looked up
 legal_known : (x : Board) (v : Throw) (y : Board) → ∥ Legal x v y ∥₁ → Legal x v y
@@ -49,7 +47,7 @@ equations_known over f x known = record {
     λ left. ∥∥₁_elim known (ℕ_set _ _) (λ here. (here.shares (suc k) few).1 left),
   )
 
--- .. and those of a file
+-- the equations of a file are known as such
 local_known : (f : List ℕ) → IsFile f → ∥ IsLocalDatabase f ∥₁ → IsLocalDatabase f
 local_known f file known = record {
   file = file;
@@ -59,7 +57,7 @@ local_known f file known = record {
       equations_known whole (book_of f) x (∥∥₁_map known (λ local. local.at_each x at low));
 }
 
--- .. and with them that it is right
+-- that a file whose equations are known is right is known as such
 pub right_known : (f : List ℕ) → IsFile f → ∥ IsRightDatabase f ∥₁ → IsRightDatabase f
 right_known f file known =
     right_of_local f (local_known f file (∥∥₁_map known (λ right. local_of_right f right)))
@@ -93,7 +91,25 @@ local_board_known f known = record {
       (∥∥₁_map known (λ local. local.at_each x at low));
 }
 
--- .. and with them that it is right
+-- that a board file is right is known as such
 pub right_board_known : (f : List ℕ) → ∥ IsRightBoard f ∥₁ → IsRightBoard f
 right_board_known f known =
     right_board f (local_board_known f (∥∥₁_map known (λ right. local_board f right)))
+
+-- that a file is a right database is known as such, and not only that it is so
+pub right_database_known : (f : List ℕ) → ∥ IsRightDatabase f ∥₁ → IsRightDatabase f
+right_database_known f known =
+    right_known f
+    (file_known (layout_of (version_of f)) f (∥∥₁_map known (λ right. right.file))) known
+
+-- what is kept of a file of either kind is known as such
+pub accepted_known : (kind : Kind) (f : List ℕ) (kept : Accepted) → ∥ IsAcceptedAs kind f kept ∥₁ →
+    IsAcceptedAs kind f kept
+accepted_known kind f kept known = record {
+  right = right kind (∥∥₁_map known (λ held. held.right));
+  version = ∥∥₁_elim known (ℕ_set _ _) (λ held. held.version);
+  bound = ∥∥₁_elim known (ℕ_set _ _) (λ held. held.bound);
+} where
+  right : (kind : Kind) → ∥ IsRightAs kind f ∥₁ → IsRightAs kind f
+  right OfDatabase known = right_database_known f known
+  right OfBoard known = right_board_known f known

@@ -1,14 +1,10 @@
 -- The moves of a play, and the results of a roll, as C has them.
 use Rattle.std.specs.Prelude.{◌≡◌, ◌⊎◌, ℕ, ◌≤◌, List, length, map, All, take, drop, slice_index_or}
-use Rattle.race_model.specs.Positions.{Board}
-use Rattle.race_model.specs.Dice.{Throw}
-use Rattle.race_model.specs.Fractions.{IsFraction}
-use Rattle.race_model.specs.Books.{Book, whole_in}
-use Rattle.race_model.specs.Losses.{loss_in, IsMoveListIn}
-use Rattle.bearoff_c.specs.declared.choices.Choice.{Choice}
+use Rattle.race_model.specs.Prelude.{Board, Throw, IsFraction, Book, whole_in, loss_in, IsMoveListIn}
+use Rattle.bearoff_c.specs.declared.calls.choices.Choice.{Choice}
 use Rattle.bearoff_c.specs.Longs.{long_number_of}
-use Rattle.bearoff_c.specs.declared.plays.Move.{Move}
-use Rattle.bearoff_c.specs.declared.plays.RecordedPlay.{RecordedPlay}
+use Rattle.bearoff_c.specs.declared.calls.plays.Move.{Move}
+use Rattle.bearoff_c.specs.declared.calls.plays.RecordedPlay.{RecordedPlay}
 
 -- the positions of results
 abbrev pub places_of : List Choice → List Board

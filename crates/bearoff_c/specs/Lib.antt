@@ -5,3 +5,4 @@ pub mod ChoiceLists
 pub mod FileBooks
 pub mod Opening
 pub mod Told
+pub mod Notations

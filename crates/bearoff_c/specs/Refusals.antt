@@ -1,9 +1,7 @@
 -- Why a call gives no answer, and the status of that.
-use Rattle.std.specs.Prelude.{◌≡◌, ◌↔◌, ℕ, ◌+◌, ◌==◌, nat_lt, nat_le, ◌&&◌, Bool, true, false}
-use Rattle.std.specs.Prelude.{if◌then◌else◌}
+use Rattle.std.specs.Prelude.{◌≡◌, ◌↔◌, ℕ, ◌+◌, ◌==◌, nat_lt, nat_le, ◌&&◌, Bool, true, false, if◌then◌else◌}
 use Rattle.std.specs.Prelude.{Option, Some, None, Result, Ok, Err}
-use Rattle.race_model.specs.Positions.{Board, checkers, pips}
-use Rattle.race_model.specs.Ranks.{count_to}
+use Rattle.race_model.specs.Prelude.{Board, checkers, pips, count_to}
 use Rattle.bearoff_c.specs.declared.statuses.Refusal.{Refusal}
 use Rattle.bearoff_c.specs.declared.statuses.Refusal.TheVariants.{NotOpen, BadRoll, TooMany, OverBound, Finished}
 use Rattle.bearoff_c.specs.declared.statuses.Refusal.TheVariants.{NotLegal, Changed, NoRank, BadText}

@@ -1,23 +1,20 @@
 -- What the calls tell by a book, as C has it.
-use Rattle.std.specs.Prelude.{◌≡◌, ℕ, ◌*◌, ◌<◌, ◌≤◌, map, slice_index, ◌+◌, List, length, slice_index_or}
-use Rattle.race_model.specs.Positions.{Board, IsPosition}
-use Rattle.race_model.specs.Dice.{Throw}
-use Rattle.race_model.specs.Plays.{Legal}
-use Rattle.race_model.specs.FirstPlays.{IsFirstPlay}
-use Rattle.race_model.specs.Strategies.{count_over, IsLeastIn}
-use Rattle.race_model.specs.Books.{Book, mean_in, share_in, recorded_in, follow_in, whole_in}
-use Rattle.race_model.specs.Losses.{loss_in, IsLossIn}
-use Rattle.race_model.specs.Fractions.{IsFraction, IsThousandths}
+use Rattle.std.specs.Prelude.{◌≡◌, ℕ, ◌*◌, ◌-◌, ◌<◌, ◌≤◌, map, slice_index, ◌+◌, List, length, slice_index_or}
+use Rattle.std.specs.Prelude.{true, false}
+use Rattle.race_model.specs.Prelude.{Board, IsPosition, pips, Throw, Legal, IsFirstPlay, count_over, IsLeastIn, Book}
+use Rattle.race_model.specs.Prelude.{mean_in, share_in, recorded_in, follow_in, whole_in, loss_in, IsLossIn, IsFraction}
+use Rattle.race_model.specs.Prelude.{IsThousandths, rank}
 use Rattle.bearoff_c.specs.declared.numbers.Long.{Long}
 use Rattle.bearoff_c.specs.declared.numbers.RoundedLong.{RoundedLong}
 use Rattle.bearoff_c.specs.declared.numbers.LongFraction.{LongFraction}
-use Rattle.bearoff_c.specs.declared.distributions.Distribution.{Distribution}
-use Rattle.bearoff_c.specs.declared.distributions.Chance.{Chance}
-use Rattle.bearoff_c.specs.declared.plays.RecordedPlay.{RecordedPlay}
-use Rattle.bearoff_c.specs.FileBooks.{rolls_in, chance_in}
+use Rattle.bearoff_c.specs.declared.calls.distributions.Distribution.{Distribution}
+use Rattle.bearoff_c.specs.declared.calls.distributions.Chance.{Chance}
+use Rattle.bearoff_c.specs.declared.calls.plays.RecordedPlay.{RecordedPlay}
+use Rattle.epc_query.specs.Kinds.{rolls_in}
+use Rattle.bearoff_c.specs.declared.calls.means.Wastage.{Wastage}
+use Rattle.bearoff_c.specs.FileBooks.{chance_in, IsRoundedPipsIn}
 use Rattle.bearoff_c.specs.Longs.{long_number_of}
 use Rattle.bearoff_c.specs.ChoiceLists.{moves_in, AreZerosAfter}
-use Rattle.race_model.specs.Ranks.{rank}
 
 -- the mean number of rolls, which is the least over all strategies
 pub record SaysMean (b : Book) (x : Board) (mean : Long) : Type 0 where
@@ -39,6 +36,14 @@ pub record SaysEpc (b : Book) (x : Board) (told : RoundedLong) : Type 0 where
       (long_number_of told.exact.numerator) (long_number_of told.exact.denominator)
   pub rounded : IsThousandths (long_number_of told.exact.numerator)
       (long_number_of told.exact.denominator) told.thousandths
+
+-- the effective pip count, rounded, less the pip count, in thousandths: or the pip count less it
+pub record SaysWastage (b : Book) (x : Board) (told : Wastage) : Type 0 where
+  pub above : told.is_below ≡ false
+      → IsRoundedPipsIn b (mean_in b x) (1000 * pips x + told.thousandths)
+  pub below : told.is_below ≡ true
+      → IsRoundedPipsIn b (mean_in b x) (1000 * pips x - told.thousandths)
+  pub within : told.is_below ≡ true → (0 < told.thousandths) × (told.thousandths ≤ 1000 * pips x)
 
 -- the shares of each number of rolls where each play is the recorded one, and none beyond the most
 pub record SaysShares (b : Book) (x : Board) (spread : Distribution) : Type 0 where

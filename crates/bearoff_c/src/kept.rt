@@ -1,13 +1,11 @@
 //! A file of any version as C keeps it.
 ghost use Rattle.std.specs.Prelude.{◌≡◌, IsTrue, IfOk, OnOk};
 ghost use Rattle.ranking.specs.Tables.{IsRankTable};
-ghost use Rattle.bearoff_c.specs.FileBooks.{file_book, book_by, version_in, IsOpenedFile};
+ghost use Rattle.epc_query.specs.Kinds.{file_book, book_by, version_in, stated_kind, IsAcceptedAs};
 ghost use Rattle.bearoff_c.specs.Refusals.{open_refusal, refusal_in};
 
-use crate::opened::OpenedFile;
 use crate::statuses::Refusal;
-use db_layout::{BOARD_VERSION, Kind};
-use epc_query::Accepted;
+use epc_query::{Accepted, Opened};
 use ranking::RankTable;
 
 /// A file of any version in bytes that the caller keeps. It is open where `bearoff_open` has
@@ -33,12 +31,13 @@ pub struct File<'a> {
 
     // by what ranks are found, and what is known for as long as the bytes are unchanged
     pub ghost ranked: { IsTrue is_open → IsRankTable ranks },
-    pub ghost opened: { ∥ (IsTrue is_open → IsOpenedFile bytes.now version bound) ∥₁ },
+    pub ghost opened: { ∥ (IsTrue is_open → IsAcceptedAs (stated_kind bytes.now) bytes.now
+        record { version = version; bound = bound }) ∥₁ },
 }
 
 impl<'a> File<'a> {
     /// The file that answers, where this one is open. Refused as `NotOpen`, and as nothing else.
-    pub fn opened(&self) -> Result<OpenedFile<'_>, Refusal>
+    pub fn opened(&self) -> Result<Opened<'_>, Refusal>
         ensures refusal { refusal_in result ≡ open_refusal self.now.is_open }
         ensures book { IfOk result (λ opened. book_by opened ≡ file_book self.now.bytes.now) }
         ensures bound { IfOk result (λ opened. (book_by opened).bound ≡ self.now.bound) }
@@ -51,9 +50,7 @@ impl<'a> File<'a> {
             version: self.version,
             bound: self.bound,
         };
-        if self.version != BOARD_VERSION {
-            return Ok(OpenedFile::kept(Kind::Database, self.bytes, accepted, &self.ranks));
-        }
-        Ok(OpenedFile::kept(Kind::Board, self.bytes, accepted, &self.ranks))
+        let kind = accepted.kind();
+        Ok(Opened::kept(kind, self.bytes, accepted, &self.ranks))
     }
 }

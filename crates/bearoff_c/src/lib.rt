@@ -7,21 +7,8 @@
 //! reads beside them.
 #![tactic(auto)]
 
-mod choices;
-mod distributions;
-mod files;
+mod calls;
 mod kept;
-mod library;
-mod lines;
-mod means;
 mod numbers;
-mod opened;
-mod opening;
-mod plays;
-mod positions;
-mod ranks;
-mod rolls;
-mod status_texts;
+mod questions;
 mod statuses;
-mod tables;
-mod told;

@@ -1,13 +1,9 @@
 //! Numbers of the whole board as C has them.
 ghost use Rattle.std.specs.Prelude.{◌≡◌, ◌+◌, ◌*◌, ◌^◌, ◌<◌, ◌↔◌, IsSome, IfSome};
-ghost use Rattle.race_model.specs.Fractions.{IsFraction, IsThousandths};
-ghost use Rattle.fixed_fraction.specs.Board.{board_whole};
 ghost use Rattle.bearoff_c.specs.Longs.{long_number_of};
 
-use fixed_fraction::{
-    BoardMean, Fraction, Wide, WideFraction, board_mean_and_epc, board_mean_fraction,
-    thousandths_of,
-};
+use epc_query::Rounded;
+use fixed_fraction::{Wide, WideFraction};
 
 /// 2 ^ 64.
 const WORD: u128 = 18_446_744_073_709_551_616;
@@ -79,17 +75,6 @@ impl LongFraction {
             denominator: Long::of(fraction.denominator()),
         }
     }
-
-    /// A fraction of 128 bits.
-    pub fn short(fraction: Fraction) -> LongFraction
-        ensures numerator { long_number_of result.numerator ≡ fraction.numerator }
-        ensures denominator { long_number_of result.denominator ≡ fraction.denominator }
-    {
-        LongFraction {
-            numerator: Long::of(Wide::of(fraction.numerator())),
-            denominator: Long::of(Wide::of(fraction.denominator())),
-        }
-    }
 }
 
 /// A number of rolls or of pips, exact and rounded.
@@ -104,42 +89,15 @@ pub struct RoundedLong {
 }
 
 impl RoundedLong {
-    /// A fraction of 128 bits, exact and rounded.
-    pub fn short(fraction: Fraction) -> RoundedLong
-        ensures numerator { long_number_of result.exact.numerator ≡ fraction.numerator }
-        ensures denominator { long_number_of result.exact.denominator ≡ fraction.denominator }
-        ensures rounded { IsThousandths fraction.numerator fraction.denominator
-            result.thousandths }
+    /// A number, exact and rounded, its numbers in three words each.
+    pub fn of(told: Rounded) -> RoundedLong
+        ensures numerator { long_number_of result.exact.numerator ≡ told.exact.numerator }
+        ensures denominator { long_number_of result.exact.denominator ≡ told.exact.denominator }
+        ensures thousandths { result.thousandths ≡ told.thousandths }
     {
         RoundedLong {
-            exact: LongFraction::short(fraction),
-            thousandths: thousandths_of(fraction.numerator(), fraction.denominator()),
-        }
-    }
-
-    /// A mean, exact and rounded.
-    pub fn rolls(mean: BoardMean) -> RoundedLong
-        ensures exact { IsFraction mean board_whole
-            (long_number_of result.exact.numerator) (long_number_of result.exact.denominator) }
-        ensures rounded { IsThousandths (long_number_of result.exact.numerator)
-            (long_number_of result.exact.denominator) result.thousandths }
-    {
-        RoundedLong {
-            exact: LongFraction::of(board_mean_fraction(mean)),
-            thousandths: mean.thousandths(),
-        }
-    }
-
-    /// The effective pip count of a mean, exact and rounded: 49/6 of it.
-    pub fn epc(mean: BoardMean) -> RoundedLong
-        ensures exact { IsFraction (49 * mean) (6 * board_whole)
-            (long_number_of result.exact.numerator) (long_number_of result.exact.denominator) }
-        ensures rounded { IsThousandths (long_number_of result.exact.numerator)
-            (long_number_of result.exact.denominator) result.thousandths }
-    {
-        RoundedLong {
-            exact: LongFraction::of(board_mean_and_epc(mean).1),
-            thousandths: mean.effective_thousandths(),
+            exact: LongFraction::of(told.exact),
+            thousandths: told.thousandths,
         }
     }
 }

@@ -1,7 +1,7 @@
 //! Statuses: why a call gives no answer.
-ghost use Rattle.std.specs.Prelude.{◌≡◌, ◌<◌, Some};
+ghost use Rattle.std.specs.Prelude.{◌≡◌, ◌<◌, Some, Ok};
 ghost use Rattle.bearoff_c.specs.Opening.{fault_status};
-ghost use Rattle.bearoff_c.specs.Refusals.{status_of};
+ghost use Rattle.bearoff_c.specs.Refusals.{refusal_in, status_of};
 
 use certificate::CheckFault;
 use db_layout::HeaderFault;
@@ -10,7 +10,7 @@ use db_layout::HeaderFault;
 pub const OK: u32 = 0;
 
 /// The status of a call whose answer has no room in what the caller lends.
-pub const SHORT: u32 = 8;
+pub const BUFFER_TOO_SMALL: u32 = 8;
 
 /// Why a call gives no answer, in the order of the tests.
 #[derive(Clone, Copy, Debug, PartialEq, Eq)]
@@ -39,7 +39,7 @@ pub enum Refusal {
     /// The database has no position of the rank, or fewer than asked from there on.
     NoRank,
 
-    /// The text isn't six counts with commas between them.
+    /// The text is no position.
     BadText,
 }
 
@@ -60,6 +60,22 @@ impl Refusal {
             Refusal::NoRank => 10,
             Refusal::BadText => 11,
         }
+    }
+}
+
+/// Writes what was found to the caller's variable, and returns the status of the call. A refusal
+/// has a status of its own, and writes nothing.
+pub fn put<T: Copy>(found: Result<T, Refusal>, to: &mut T) -> u32
+    ensures status { result ≡ status_of (refusal_in found) }
+    ensures found { result ≡ 0 → found ≡ Ok to.new }
+    ensures left { ¬ (result ≡ 0) → to.new ≡ to.old }
+{
+    match found {
+        Ok(found) => {
+            *to = found;
+            OK
+        }
+        Err(refusal) => refusal.status(),
     }
 }
 

@@ -1,79 +1,52 @@
-use Rattle.std.proofs.Common.{◌≡◌, IsTrue, ℕ, List, sym, ap, ◌∙◌, rules}
-use Rattle.std.proofs.Math.Nat.{ℕ_set}
-use mathlib.Core.Logic.{∥∥₁_elim, ∥∥₁_map}
-use Rattle.race_model.specs.Files.{bound_of}
-use Rattle.bearoff_c.specs.FileBooks.{book_by, version_in}
-use Rattle.bearoff_c.specs.declared.kept.File.{File}
+use Rattle.std.proofs.Common.{◌≡◌, IsTrue, ℕ, List, refl, sym, ap, ◌∙◌}
+use mathlib.Core.Logic.{∥∥₁_map}
+use Rattle.race_model.specs.Prelude.{bound_of}
 use Rattle.db_layout.specs.declared.stated.Kind.{Kind}
-use Rattle.bearoff_c.proofs.FileBooks.{database_book, board_file_book, database_version, right_database_known}
-use Rattle.bearoff_c.proofs.KnownRight.{right_board_known}
+use Rattle.db_layout.specs.declared.stated.Kind.TheVariants.{Database, Board}
+use Rattle.epc_query.specs.Kinds.{IsAcceptedAs, book_as, book_by, stated_kind}
+use Rattle.epc_query.proofs.FileBooks.{stated_book, right_version}
+use Rattle.bearoff_c.specs.declared.kept.File.{File}
+use Rattle.bearoff_c.proofs.KnownRight.{accepted_known}
 use Rattle.bearoff_c.proofs.kept.File.opened.Goals as goal
+use Rattle.bearoff_c.proofs.kept.File.opened.Goals.{After-kind-kind}
 
--- the bound that is kept of an open file is that of its bytes
-kept_bound : (file : File) → IsTrue file.is_open → file.bound ≡ bound_of file.bytes.now
-kept_bound file is_open = ∥∥₁_elim file.opened (ℕ_set _ _) (λ known. (known is_open).bound_is)
+-- what is kept of an open file
+known : (file : File) → IsTrue file.is_open → IsAcceptedAs (stated_kind file.bytes.now)
+    file.bytes.now (record { version = file.version; bound = file.bound })
+known file is_open = accepted_known (stated_kind file.bytes.now) file.bytes.now _
+    (∥∥₁_map file.opened (λ known. known is_open))
 
--- .. and so is the version
-kept_version : (file : File) → IsTrue file.is_open → file.version ≡ version_in file.bytes.now
-kept_version file is_open =
-    ∥∥₁_elim file.opened (ℕ_set _ _) (λ known. (known is_open).version_is)
+-- its kind is the one that its header states
+kind_is : (c : After-kind-kind) → stated_kind c.args.self.now.bytes.now ≡ c.kind-kind.result
+kind_is c =
+    c.kind-kind.ensures (stated_kind c.args.self.now.bytes.now) c.args.self.now.bytes.now
+    (known c.args.self.now c.if-not-self.false)
 
 pub kept-requires : goal.kept-requires
 kept-requires c =
-    let file = c.args.self.now in
-    let other : ¬ (file.version ≡ 3) = search rules in
-    let right = right_database_known file.bytes.now
-    (∥∥₁_map file.opened (λ known. (known c.if-not-self.false).database other)) in (
-      record {
-        right = right;
-        version = kept_version c.args.self.now c.if-not-self.false
-            ∙ database_version file.bytes.now right;
-        bound = kept_bound c.args.self.now c.if-not-self.false;
-      },
-      file.ranked c.if-not-self.false,
-    )
-
-pub returns-then-self-ne-BOARD_VERSION-clause-book :
-    goal.returns-then-self-ne-BOARD_VERSION-clause-book
-returns-then-self-ne-BOARD_VERSION-clause-book c =
-    let file = c.args.self.now in
-    let other : ¬ (file.version ≡ 3) = search rules in
-    ap book_by c.kept.ensures
-    ∙ database_book file.bytes.now
-    (λ e. other (kept_version c.args.self.now c.if-not-self.false ∙ e))
-
-pub returns-then-self-ne-BOARD_VERSION-clause-bound :
-    goal.returns-then-self-ne-BOARD_VERSION-clause-bound
-returns-then-self-ne-BOARD_VERSION-clause-bound c =
-    ap (λ (opened : Kind × List ℕ). (book_by opened).bound) c.kept.ensures
-    ∙ sym (kept_bound c.args.self.now c.if-not-self.false)
-
-pub returns-then-self-ne-BOARD_VERSION-clause-version :
-    goal.returns-then-self-ne-BOARD_VERSION-clause-version
-returns-then-self-ne-BOARD_VERSION-clause-version c =
-    kept_version c.args.self.now c.if-not-self.false
-
-pub kept-requires-2 : goal.kept-requires-2
-kept-requires-2 c =
-    let file = c.args.self.now in
-    let is : file.version ≡ 3 = search rules in (
-      record {
-        right = right_board_known file.bytes.now
-            (∥∥₁_map file.opened (λ known. (known c.if-not-self.false).board is));
-        version = is;
-        bound = kept_bound c.args.self.now c.if-not-self.false;
-      },
-      file.ranked c.if-not-self.false,
-    )
+    rw (← kind_is (goal.at.kept-requires c).After-kind-kind)
+    (known c.args.self.now c.if-not-self.false, c.args.self.now.ranked c.if-not-self.false)
 
 pub returns-clause-book : goal.returns-clause-book
 returns-clause-book c =
-    let is : c.args.self.now.version ≡ 3 = search rules in
-    ap book_by c.kept-2.ensures
-    ∙ board_file_book c.args.self.now.bytes.now
-    (sym (kept_version c.args.self.now c.if-not-self.false) ∙ is)
+    let f = c.args.self.now.bytes.now in
+    ap book_by c.kept.ensures
+    ∙ ap (λ kind. book_as kind f) (sym (kind_is (goal.at.returns-clause-book c).After-kind-kind))
+    ∙ stated_book f
+
+-- the bound of a book is that of its bytes
+bound_as : (kind : Kind) (f : List ℕ) → (book_as kind f).bound ≡ bound_of f
+bound_as Database f = refl
+bound_as Board f = refl
 
 pub returns-clause-bound : goal.returns-clause-bound
 returns-clause-bound c =
-    ap (λ (opened : Kind × List ℕ). (book_by opened).bound) c.kept-2.ensures
-    ∙ sym (kept_bound c.args.self.now c.if-not-self.false)
+    ap (λ (opened : Kind × List ℕ). (book_by opened).bound) c.kept.ensures
+    ∙ bound_as c.kind-kind.result c.args.self.now.bytes.now
+    ∙ sym (known c.args.self.now c.if-not-self.false).bound
+
+pub returns-clause-version : goal.returns-clause-version
+returns-clause-version c =
+    let held = known c.args.self.now c.if-not-self.false in
+    held.version
+    ∙ right_version (stated_kind c.args.self.now.bytes.now) c.args.self.now.bytes.now held.right
