@@ -1,28 +1,37 @@
 -- The commands, on words that do not begin with a hyphen.
-use Rattle.std.proofs.Common.{◌≡◌, ◌∙◌, ◌==◌, ◌&&◌, ◌||◌, cond, is_some, not, ℕ, Bool, true, false, refl, sym, ap}
-use Rattle.std.proofs.Common.{ap₂, true≢false, List, [], ◌∷◌, Option, Some, None, Result, Ok, Err, IfErr, IsOk}
-use Rattle.std.proofs.Common.{codes}
+use Rattle.std.proofs.Common.{◌≡◌, ◌∙◌, ◌==◌, ◌&&◌, ◌||◌, cond, is_some, not, ℕ, Bool, true, false, refl, sym, ap, ap₂}
+use Rattle.std.proofs.Common.{true≢false, List, [], ◌∷◌, Option, Some, None, Result, Ok, Err, IfErr, IfOk, IsErr}
+use Rattle.std.proofs.Common.{IsErrAnd, IsOk, codes, ◌++◌, append_assoc, append-nil, option_and_then, option_map, fold}
 use Rattle.std.specs.List.{list_all}
 use Rattle.std.specs.Str.{bytes_eq}
 use Rattle.clap.specs.Lexer.{long_of, long_of_rest, short_of, short_of_rest, strip_byte}
 use Rattle.clap.specs.Words.{Text, all_of, one_of, one_text, first_of, first_value, found_of, is_simple, matched_of}
-use Rattle.clap.specs.Words.{HasMatchesOf, App, built, matches_of, raw_values, takes}
-use Rattle.clap.specs.Simple.{Shape, entered}
-use Rattle.std.specs.Prelude.{option_and_then, option_map}
+use Rattle.clap.specs.Words.{HasMatchesOf, App, app_of, built, matches_of, raw_values, takes, with_rule, Row}
+use Rattle.clap.specs.declared.builder.command.Command.{Command}
+use Rattle.std.specs.declared.alloc.AllocError.{AllocError}
+use Rattle.clap.specs.Simple.{Shape, entered, filled}
 use Rattle.std.specs.Option.{option_map_or}
 use Rattle.clap.specs.Walk.{Held, Rule, Step, Waiting, Walk, idle, value, trailing, after_step, arg_by_index, finished}
 use Rattle.clap.specs.Walk.{long_or_other, nothing_held, plain_word, short_or_plain, subcommand_met}
-use Rattle.clap.specs.Walk.{subcommand_or_other, to_positional, walk, walk_from, walked, word_met}
+use Rattle.clap.specs.Walk.{subcommand_or_other, to_positional, walk, walk_from, walked, word_met, positional}
+use Rattle.clap.specs.Walk.{reading_by, used}
 use Rattle.clap.specs.Takes.{bundle_passes, default_passes, entered_passes, flag_word_passes, is_valid, other_passes}
 use Rattle.clap.specs.Takes.{settle_passes, step_passes, turn_passes, walk_passes, word_passes}
 use Rattle.clap.specs.declared.parser.matches.ArgMatches.{ArgMatches}
 use Rattle.clap.proofs.WalkLemmas.{first_value-rows, one_text-rows, raw_values-rows}
-use Rattle.command_line.specs.Asked.{IsPlain}
-use Rattle.command_line.specs.Commands.{about_app, file_app, query_app, upgrade_app}
+use Rattle.command_line.specs.declared.words.WordsError.{WordsError}
+use Rattle.command_line.specs.declared.words.WordsError.TheVariants.{OutOfMemory}
+use Rattle.command_line.specs.Asked.{Gives, IsPlain, ArePlain}
+use Rattle.command_line.specs.Commands.{about_app, file_app, query_app, upgrade_app, ask_app, word_rule, words_rule}
+use Rattle.std.proofs.Math.Bool.{and-eq-true_iff}
+use Rattle.clap.specs.declared.parser.matches.ValueSource.TheVariants.{CommandLine}
+use Rattle.clap.proofs.OnLiterals.{clap_on_literals}
 
-pub ok_no_err : {X E : Type 0} (r : Result X E) (P : E → Type 0) → IsOk r → IfErr r P
-ok_no_err (Ok x) P h = tt
-ok_no_err (Err e) P h = absurd (true≢false (sym h))
+-- what a `?` that fails for want of memory leaves
+pub memory_left : {X : Type 0} (r : Result X WordsError) (e : WordsError) (P : X → Type 0)
+    → IsErr r × IsErrAnd r (λ x. x ≡ e) → e ≡ OutOfMemory → Gives r P
+memory_left (Ok x) e P left is = absurd left.1
+memory_left (Err x) e P left is = (tt, left.1 ∙ is)
 
 -- what is not true is false
 pub is_false : (b : Bool) → not b ≡ true → b ≡ false
@@ -105,7 +114,7 @@ module _ (app : App) (x y z : Text) (after_x after_y after_z : Walk)
       ∙ ap (λ w. walked (built app).top.rules [] w z) at_y
       ∙ at_z
 
-  -- .. and passes where they do
+  -- the walk over three words passes where their steps do
   pub three_passes : turn_passes (built app).top [] (walk_from nothing_held) x ≡ true
       → turn_passes (built app).top [] after_x y ≡ true
       → turn_passes (built app).top [] after_y z ≡ true
@@ -246,7 +255,7 @@ one_read a b words m id same simple has = one_text-rows (found_of m) id
     ∙ ap (one_of id)
     ((has (ap is_simple same ∙ simple)).0 ∙ ap (λ (x : App). matches_of x words) same)
 
--- .. of words that are given
+-- from the matches of words that are given to the getters
 pub first_from : (a b : App) (words given : List Text) (m : ArgMatches) (id text : Text) → a ≡ b
     → is_simple b ≡ true → HasMatchesOf a words m → words ≡ given
     → first_of id (matches_of b given) ≡ Some text → first_value (found_of m) id ≡ Some text
@@ -267,3 +276,155 @@ all_from a b words given m id values same simple has are is = raw_values-rows (f
     ∙ ap (all_of id)
     ((has (ap is_simple same ∙ simple)).0 ∙ ap (λ (x : App). matches_of x words) same)
     ∙ ap (λ ws. all_of id (matches_of b ws)) are ∙ is
+
+-- ---- a command with one more argument
+
+pub with_is : (r : Result Command AllocError) (a b : App) (u v : Rule) → a ≡ b → u ≡ v
+    → IfOk r (λ c. app_of c ≡ with_rule a u) → IfOk r (λ c. app_of c ≡ with_rule b v)
+with_is (Ok c) a b u v same rule is = is ∙ ap₂ with_rule same rule
+with_is (Err e) a b u v same rule is = is
+
+-- ---- A file and lines, none of which begins with a hyphen
+
+abbrev ask_built : App
+ask_built = built ask_app
+
+abbrev line_rules : List Rule
+line_rules = ask_built.top.rules
+
+module _ (path : Text) where
+  -- what is held once the file was met
+  abbrev file_held : Held
+  file_held = record { rows = []; pending = Some (codes "FILE", path ∷ []); skip = 0 }
+
+  -- the rows with the lines so far
+  abbrev line_rows : List Text → List Row
+  line_rows [] = used (filled (word_rule (codes "FILE"))) (path ∷ []) []
+  line_rows (first ∷ rest) = used (filled (word_rule (codes "FILE"))) (path ∷ []) [] ++ record {
+    id = codes "LINE";
+    values = first ∷ rest;
+    count = None;
+    source = Some CommandLine;
+    reading = reading_by (filled (words_rule (codes "LINE")));
+  } ∷ []
+
+  -- the walk once some lines were met, and then a last one
+  abbrev line_walk : List Text → Text → Walk
+  line_walk seen last = record {
+    held = record { rows = line_rows seen; pending = Some (codes "LINE", last ∷ []); skip = 0 };
+    waiting = positional;
+    position = 2;
+    is_trailing = false;
+    stopped = None;
+  }
+
+  -- one more line
+  line_walked : (seen : List Text) (last line : Text) → IsPlain line
+      → walked line_rules [] (line_walk seen last) line ≡ line_walk (seen ++ last ∷ []) line
+  unfolding walked clap_on_literals
+  line_walked [] last line plain = ap
+      (λ (met : Held × Step). after_step line_rules line (line_walk [] last) met.0 met.1)
+      (any_met line plain positional line_rules 2 (line_walk [] last).held refl refl)
+  line_walked (first ∷ rest) last line plain = ap
+      (λ (m : Held × Step). after_step line_rules line (line_walk (first ∷ rest) last) m.0 m.1)
+      (any_met line plain positional line_rules 2 (line_walk (first ∷ rest) last).held refl refl)
+
+  -- the walk passes over one more line
+  line_turn : (seen : List Text) (last line : Text) → IsPlain line
+      → turn_passes ask_built.top [] (line_walk seen last) line ≡ true
+  line_turn [] last line plain =
+      ap₂ (λ b (met : Held × Step). b && step_passes ask_built.top 2 met.0 met.1)
+      (plain_passes line plain positional ask_built.top (line_walk [] last).held refl)
+      (any_met line plain positional line_rules 2 (line_walk [] last).held refl refl)
+  line_turn (first ∷ rest) last line plain =
+      ap₂ (λ b (met : Held × Step). b && step_passes ask_built.top 2 met.0 met.1)
+      (plain_passes line plain positional ask_built.top (line_walk (first ∷ rest) last).held refl)
+      (any_met line plain positional line_rules 2 (line_walk (first ∷ rest) last).held refl refl)
+
+  -- several more
+  lines_walked : (seen : List Text) (last : Text) (more : List Text) → ArePlain more
+      → (before : List Text) × (end : Text)
+      × (fold (walked line_rules []) (line_walk seen last) more ≡ line_walk before end)
+      × (before ++ end ∷ [] ≡ (seen ++ last ∷ []) ++ more)
+  lines_walked seen last [] plain = (seen, last, refl, sym (append-nil (seen ++ last ∷ [])))
+  lines_walked seen last (line ∷ more) plain =
+      let both = (and-eq-true_iff _ _).0 plain in
+      let later = lines_walked (seen ++ last ∷ []) line more both.1 in (
+        later.0,
+        later.1,
+        ap (λ w. fold (walked line_rules []) w more) (line_walked seen last line both.0) ∙ later.2,
+        later.3 ∙ append_assoc (seen ++ last ∷ []) (line ∷ []) more,
+      )
+
+  lines_pass : (seen : List Text) (last : Text) (more : List Text) → ArePlain more
+      → walk_passes ask_built.top [] (line_walk seen last) more ≡ true
+  unfolding walk_passes
+  lines_pass seen last [] plain = refl
+  lines_pass seen last (line ∷ more) plain =
+      let both = (and-eq-true_iff _ _).0 plain in
+      ap₂ (λ a b. a && b) (line_turn seen last line both.0)
+      (ap (λ w. walk_passes ask_built.top [] w more) (line_walked seen last line both.0)
+      ∙ lines_pass (seen ++ last ∷ []) line more both.1)
+
+  -- what such a walk comes to
+  end_taken : (seen : List Text) (last : Text) → taken ask_built true (line_walk seen last) ≡ true
+  end_taken [] last = refl
+  end_taken (first ∷ rest) last = refl
+
+  end_file : (seen : List Text) (last : Text)
+      → first_of (codes "FILE") (finished line_rules (line_walk seen last).held) ≡ Some path
+  end_file [] last = refl
+  end_file (first ∷ rest) last = refl
+
+  end_lines : (s : List Text) (last : Text)
+      → all_of (codes "LINE") (finished line_rules (line_walk s last).held) ≡ Some (s ++ last ∷ [])
+  end_lines [] last = refl
+  end_lines (first ∷ rest) last = refl
+
+  module _ (plain : IsPlain path) (line : Text) (lines : List Text)
+      (all : ArePlain (line ∷ lines)) where
+    abbrev each_plain : IsPlain line × ArePlain lines
+    each_plain = (and-eq-true_iff _ _).0 all
+
+    ask_walked : walked line_rules [] (walk_from nothing_held) path ≡ walk_at file_held 2
+    ask_walked = plain_walked path plain line_rules 1 nothing_held
+
+    first_walked : walked line_rules [] (walk_at file_held 2) line ≡ line_walk [] line
+    first_walked = plain_walked line each_plain.0 line_rules 2 file_held
+
+    ask_end : (before : List Text) × (end : Text)
+        × (walk line_rules [] nothing_held (path ∷ line ∷ lines) ≡ line_walk before end)
+        × (before ++ end ∷ [] ≡ line ∷ lines)
+    ask_end =
+        let later = lines_walked [] line lines each_plain.1 in (
+          later.0,
+          later.1,
+          ap (λ w. fold (walked line_rules []) (walked line_rules [] w line) lines) ask_walked
+              ∙ ap (λ w. fold (walked line_rules []) w lines) first_walked ∙ later.2,
+          later.3,
+        )
+
+    ask_passes : walk_passes ask_built.top [] (walk_from nothing_held) (path ∷ line ∷ lines) ≡ true
+    unfolding walk_passes
+    ask_passes = ap₂ (λ a b. a && b) (plain_turn path plain ask_built.top 1 nothing_held)
+        (ap₂ (λ a b. a && b)
+        (ap (λ w. turn_passes ask_built.top [] w line) ask_walked
+        ∙ plain_turn line each_plain.0 ask_built.top 2 file_held)
+        (ap (λ w. walk_passes ask_built.top [] w lines)
+        (ap (λ w. walked line_rules [] w line) ask_walked ∙ first_walked)
+        ∙ lines_pass [] line lines each_plain.1))
+
+    -- `ask` takes the words
+    pub ask_takes : takes ask_app (path ∷ line ∷ lines) ≡ true
+    ask_takes = ap₂ (taken ask_built) ask_passes ask_end.2 ∙ end_taken ask_end.0 ask_end.1
+
+    -- `ask` gives the file
+    pub ask_file : first_of (codes "FILE") (matches_of ask_app (path ∷ line ∷ lines)) ≡ Some path
+    ask_file = ap (λ (w : Walk). first_of (codes "FILE") (finished line_rules w.held)) ask_end.2
+        ∙ end_file ask_end.0 ask_end.1
+
+    -- `ask` gives the lines
+    pub ask_lines : all_of (codes "LINE") (matches_of ask_app (path ∷ line ∷ lines))
+        ≡ Some (line ∷ lines)
+    ask_lines = ap (λ (w : Walk). all_of (codes "LINE") (finished line_rules w.held)) ask_end.2
+        ∙ end_lines ask_end.0 ask_end.1 ∙ ap Some ask_end.3

@@ -5,16 +5,19 @@ use Rattle.std.specs.Str.Parse.{IsNumeral, digits_value}
 use Rattle.std.specs.List.{Contains, list_all}
 use Rattle.std.specs.String.{string_bytes}
 use Rattle.std.specs.Str.{bytes_eq}
-use Rattle.clap.specs.Words.{Text, kind_of}
-use Rattle.clap.specs.declared.error.Error.{Error}
-use Rattle.clap.specs.declared.error.kind.ErrorKind.TheVariants.{OutOfMemory}
 use Rattle.db_layout.specs.declared.stated.Kind.{Kind}
 use Rattle.db_layout.specs.declared.stated.Kind.TheVariants.{Database, Board}
 use Rattle.command_line.specs.declared.words.Request.{Request}
-use Rattle.command_line.specs.declared.words.Request.TheVariants.{Default, Build, Check, Query, Ask, About, Audit}
+use Rattle.command_line.specs.declared.words.Request.TheVariants.{Default, Build, Check, Query, Ask, Show, About, Audit}
 use Rattle.command_line.specs.declared.words.Request.TheVariants.{Upgrade}
+use Rattle.command_line.specs.declared.words.WordsError.{WordsError}
+use Rattle.command_line.specs.declared.words.WordsError.TheVariants.{OutOfMemory}
 
--- a request with each of its texts as bytes, wherever they lie; the lines of `ask` are the text of
+-- a text, as its bytes
+abbrev pub Text : Type 0
+Text = List ℕ
+
+-- a request with each text as its bytes; the lines of `ask` and the words of `show` are the text of
 -- an input
 pub data Asked : Type 0 where
   default : Asked
@@ -22,6 +25,7 @@ pub data Asked : Type 0 where
   check : Kind → Text → Asked
   query : Kind → Text → Option ℕ → Asked
   ask : Text → Text → Asked
+  show : Text → Asked
   about : Text → Asked
   audit : Kind → Text → Asked
   upgrade : Text → Text → Asked
@@ -33,6 +37,7 @@ asked_by (Build kind pips path) = build kind pips path.now
 asked_by (Check kind path) = check kind path.now
 asked_by (Query kind path cache) = query kind path.now cache
 asked_by (Ask path lines) = ask path.now (string_bytes lines)
+asked_by (Show words is_json) = show (string_bytes words)
 asked_by (About path) = about path.now
 asked_by (Audit kind path) = audit kind path.now
 asked_by (Upgrade old new) = upgrade old.now new.now
@@ -64,7 +69,8 @@ flagged Database words = words
 flagged Board words = codes "--board" ∷ words
 
 -- the words behind a command are these of the request: `--board` for a board file or an option with
--- its number before the file, and files and lines that don't begin with a hyphen
+-- its number before the file, and files and lines that don't begin with a hyphen. None are said to
+-- be those of `show`
 abbrev pub AreUsual : Asked → List Text → Type 0
 AreUsual default words = ⊥
 AreUsual (build Database pips path) words = (digits : Text) × Writes pips digits × (pips < 256)
@@ -79,6 +85,7 @@ AreUsual (query Database path (Some records)) words = (digits : Text) × Writes 
 AreUsual (query Board path (Some records)) words = ⊥
 AreUsual (ask path text) words = (line : Text) × (lines : List Text) × IsPlain path
     × ArePlain (line ∷ lines) × (text ≡ as_input (line ∷ lines)) × (words ≡ path ∷ line ∷ lines)
+AreUsual (show texts) words = ⊥
 AreUsual (about path) words = IsPlain path × (words ≡ path ∷ [])
 AreUsual (audit kind path) words = IsPlain path × (words ≡ flagged kind (path ∷ []))
 AreUsual (upgrade before after) words =
@@ -91,6 +98,7 @@ name_of (build kind pips path) = codes "build"
 name_of (check kind path) = codes "check"
 name_of (query kind path cache) = codes "query"
 name_of (ask path lines) = codes "ask"
+name_of (show texts) = codes "show"
 name_of (about path) = codes "about"
 name_of (audit kind path) = codes "audit"
 name_of (upgrade old new) = codes "upgrade"
@@ -100,8 +108,7 @@ abbrev pub Asks : List Text → Asked → Type 0
 Asks words asked = ((words ≡ []) × (asked ≡ default))
     ⊎ ((rest : List Text) × (words ≡ name_of asked ∷ rest) × AreUsual asked rest)
 
--- the kind of file that words speak of: a board file where `--board` is one of them, before any
--- word `--`
+-- the kind of file: a board file where `--board` is one of the words, before any `--`
 abbrev pub kind_in : List Text → Kind
 kind_in [] = Database
 kind_in (word ∷ rest) = cond (bytes_eq word (codes "--board")) Board
@@ -113,8 +120,8 @@ is_word [] text = false
 is_word (word ∷ rest) text = cond (bytes_eq word text) true (is_word rest text)
 
 -- the result is an `Ok` of which P holds, or memory was wanting
-abbrev pub Gives : {X : Type 0} → Result X Error → (X → Type 0) → Type 0
-Gives result P = IfOk result P × IfErr result (λ e. kind_of e ≡ OutOfMemory)
+abbrev pub Gives : {X : Type 0} → Result X WordsError → (X → Type 0) → Type 0
+Gives result P = IfOk result P × IfErr result (λ error. error ≡ OutOfMemory)
 
 -- a request asks for this
 abbrev pub IsFor : Asked → Request → Type 0
@@ -124,7 +131,7 @@ IsFor asked request = asked_by request ≡ asked
 abbrev pub Follows : Text → List Text → Text → Type 0
 Follows name words text = (rest : List Text) × (words ≡ name ∷ rest) × Contains rest text
 
--- .. which speak of a file of this kind
+-- the same of words that speak of a file of this kind
 abbrev pub FollowsFor : Kind → Text → List Text → Text → Type 0
 FollowsFor kind name words text = (rest : List Text) × (words ≡ name ∷ rest)
     × (kind_in rest ≡ kind) × Contains rest text
@@ -141,6 +148,7 @@ IsAskedBy words (build kind pips path) = FollowsFor kind (codes "build") words p
 IsAskedBy words (check kind path) = FollowsFor kind (codes "check") words path
 IsAskedBy words (query kind path cache) = FollowsFor kind (codes "query") words path
 IsAskedBy words (ask path lines) = Follows (codes "ask") words path
+IsAskedBy words (show texts) = (rest : List Text) × (words ≡ codes "show" ∷ rest)
 IsAskedBy words (about path) = Follows (codes "about") words path
 IsAskedBy words (audit kind path) = FollowsFor kind (codes "audit") words path
 IsAskedBy words (upgrade old new) =

@@ -2,6 +2,7 @@
 //! project's profile.)
 #![tactic(auto)]
 
+mod commands;
 mod words;
 
-pub use words::{Request, read_words};
+pub use words::{Request, WordsError, read_words};

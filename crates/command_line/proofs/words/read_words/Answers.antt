@@ -2,7 +2,7 @@
 use Rattle.std.proofs.Common.{◌≡◌, ◌∷◌, ◌∙◌, ap, ap₂, ℕ, List, Option, Some, None, codes, map, rules, Bool, true, false}
 use Rattle.std.proofs.Common.{[], ⊎_elim, subst, sym}
 use Rattle.command_line.specs.Asked.{AreUsual, Gives, IsFor, audit, build, check, query, kind_in, Asked, Asks, name_of}
-use Rattle.command_line.specs.Asked.{default, ask, about, upgrade}
+use Rattle.command_line.specs.Asked.{Text, default, ask, show, about, upgrade}
 use Rattle.db_layout.specs.declared.stated.Kind.{Kind}
 use Rattle.db_layout.specs.declared.stated.Kind.TheVariants.{Database, Board}
 use Rattle.command_line.proofs.BoardWords.{flagged_kind, number_kind}
@@ -10,7 +10,6 @@ use Rattle.command_line.proofs.words.read_words.Given.{Over}
 use Rattle.command_line.proofs.words.read_words.Goals.{After-read_build, After-read_query}
 use Rattle.command_line.proofs.words.read_words.Goals as goal
 use Rattle.std.specs.Str.{bytes_eq}
-use Rattle.clap.specs.Words.{Text}
 
 abbrev EachIf : Bool → Type 0 → Type 0 → Type 0
 EachIf true A B = A
@@ -44,11 +43,12 @@ named P (build kind pips path) rest usual all = all kind pips path usual
 named P (check kind path) rest usual all = all kind path usual
 named P (query kind path cache) rest usual all = all kind path cache usual
 named P (ask path lines) rest usual all = all path lines usual
+named P (show texts) rest usual all = absurd usual
 named P (about path) rest usual all = all path usual
 named P (audit kind path) rest usual all = all kind path usual
 named P (upgrade old new) rest usual all = all old new usual
 
--- .. and so of the one that they ask for, which are these
+-- P holds of the request that the words ask for, which are these
 each : (P : Asked → Type 0) (words given : List Text) (asked : Asked) → words ≡ given
     → Asks words asked → Each given P → P asked
 each P words given asked same asks all =
@@ -85,11 +85,10 @@ pub returns-in_ok-path-in-check-clause-usual : goal.returns-in_ok-path-in-check-
 returns-in_ok-path-in-check-clause-usual g c asked asks =
     let read = (c.in_ok-path-in-check.ensures {u = tt}).given in
     let kind_is = c.kind_in-kind.ensures in
-    each (λ a. (check c.kind_in-kind.result c.in_ok-path-in-check.path.now ≡ a) × Unit {0}) _
-    (codes "check" ∷ map g.S.AsStr.text c.in-Some.rest.now) asked (search rules) asks
-    (λ kind path usual. (
-      ap₂ check (kind_is ∙ ap kind_in usual.1 ∙ flagged_kind kind path usual.0)
-          (read kind path usual.0 usual.1).0,
+    each (λ a. (check c.kind_in-kind.result c.in_ok-path-in-check.path.now ≡ a) × Unit {0}) _ (codes
+    "check" ∷ map g.S.AsStr.text c.in-Some.rest.now) asked (search rules) asks (λ kind path usual. (
+      ap₂ check (kind_is ∙ ap kind_in usual.1 ∙ flagged_kind kind path usual.0) (read kind path
+          usual.0 usual.1).0,
       tt,
     ))
 
@@ -101,30 +100,26 @@ returns-in-query-clause-usual g c asked asks =
 
 pub returns-in-ask-clause-usual : goal.returns-in-ask-clause-usual
 returns-in-ask-clause-usual g c asked asks =
-    each (λ a. Gives c.read_ask.result (IsFor a)) _
-    (codes "ask" ∷ map g.S.AsStr.text c.in-Some.rest.now) asked (search rules) asks
-    c.read_ask.ensures.usual
+    each (λ a. Gives c.read_ask.result (IsFor a)) _ (codes "ask" ∷ map g.S.AsStr.text
+    c.in-Some.rest.now) asked (search rules) asks c.read_ask.ensures.usual
 
 pub returns-in-about-clause-usual : goal.returns-in-about-clause-usual
 returns-in-about-clause-usual g c asked asks =
-    each (λ a. Gives c.read_about.result (IsFor a)) _
-    (codes "about" ∷ map g.S.AsStr.text c.in-Some.rest.now) asked (search rules) asks
-    c.read_about.ensures.usual
+    each (λ a. Gives c.read_about.result (IsFor a)) _ (codes "about" ∷ map g.S.AsStr.text
+    c.in-Some.rest.now) asked (search rules) asks c.read_about.ensures.usual
 
 pub returns-in_ok-path-in-audit-clause-usual : goal.returns-in_ok-path-in-audit-clause-usual
 returns-in_ok-path-in-audit-clause-usual g c asked asks =
     let read = (c.in_ok-path-in-audit.ensures {u = tt}).given in
     let kind_is = c.kind_in-kind.ensures in
-    each (λ a. (audit c.kind_in-kind.result c.in_ok-path-in-audit.path.now ≡ a) × Unit {0}) _
-    (codes "audit" ∷ map g.S.AsStr.text c.in-Some.rest.now) asked (search rules) asks
-    (λ kind path usual. (
-      ap₂ audit (kind_is ∙ ap kind_in usual.1 ∙ flagged_kind kind path usual.0)
-          (read kind path usual.0 usual.1).0,
+    each (λ a. (audit c.kind_in-kind.result c.in_ok-path-in-audit.path.now ≡ a) × Unit {0}) _ (codes
+    "audit" ∷ map g.S.AsStr.text c.in-Some.rest.now) asked (search rules) asks (λ kind path usual. (
+      ap₂ audit (kind_is ∙ ap kind_in usual.1 ∙ flagged_kind kind path usual.0) (read kind path
+          usual.0 usual.1).0,
       tt,
     ))
 
 pub returns-in-upgrade-clause-usual : goal.returns-in-upgrade-clause-usual
 returns-in-upgrade-clause-usual g c asked asks =
-    each (λ a. Gives c.read_upgrade.result (IsFor a)) _
-    (codes "upgrade" ∷ map g.S.AsStr.text c.in-Some.rest.now) asked (search rules) asks
-    c.read_upgrade.ensures.usual
+    each (λ a. Gives c.read_upgrade.result (IsFor a)) _ (codes "upgrade" ∷ map g.S.AsStr.text
+    c.in-Some.rest.now) asked (search rules) asks c.read_upgrade.ensures.usual

@@ -6,14 +6,14 @@ use Rattle.clap.specs.Words.{first_value, found_of, takes}
 use Rattle.command_line.specs.Asked.{IsPlain, Writes, flagged}
 use Rattle.command_line.specs.Commands.{query_app}
 use Rattle.db_layout.specs.declared.stated.Kind.{Kind}
-use Rattle.command_line.proofs.PlainWords.{first_from, one_from}
-use Rattle.command_line.proofs.BoardWords.{query_kind_first, query_kind_none, query_kind_takes}
-use Rattle.command_line.proofs.Numbers.{numeral_accepted, numeral_is_plain, numeral_reads, without_no_minus}
-use Rattle.command_line.proofs.OptionWords.{query_one, query_path, query_takes}
-use Rattle.command_line.proofs.words.read_query.Given.{Over}
-use Rattle.command_line.proofs.words.read_query.Goals.{After-value_of, After-get_one-cache}
-use Rattle.command_line.proofs.Contained.{among, third_of_them, flagged_file as flagged_there}
-use Rattle.command_line.proofs.words.read_query.Goals as goal
+use Rattle.command_line.proofs.PlainWords.{first_from, memory_left, one_from}
+use Rattle.command_line.proofs.BoardWords.{query_kind_first, query_kind_none, query_kind_takes, query_one, query_path}
+use Rattle.command_line.proofs.BoardWords.{query_takes}
+use Rattle.command_line.proofs.Contained.{numeral_accepted, numeral_is_plain, numeral_reads, without_no_minus, among}
+use Rattle.command_line.proofs.Contained.{third_of_them, flagged_file as flagged_there}
+use Rattle.command_line.proofs.commands.read_query.Given.{Over}
+use Rattle.command_line.proofs.commands.read_query.Goals.{After-value_of, After-get_one-cache}
+use Rattle.command_line.proofs.commands.read_query.Goals as goal
 
 -- the file that is found stands behind `--cache N`
 numbered : (g : Over) (c : After-value_of g) (n : ℕ) (digits path : List ℕ) → Writes n digits
@@ -26,7 +26,7 @@ numbered g c n digits path w more lt plain words_are =
     (codes "FILE") path c.in_ok-query_command.ensures refl c.in_ok-matches.ensures.matches words_are
     (query_path digits path (numeral_is_plain digits w.0) accepted plain)
 
--- .. or with `--board` or nothing before it
+-- the file that is found stands with `--board` or nothing before it
 flagged_file : (g : Over) (c : After-value_of g) (kind : Kind) (path : List ℕ)
     → IsPlain path → map g.S.AsStr.text c.args.words.now ≡ flagged kind (path ∷ [])
     → first_value (found_of c.in_ok-matches.matches) (codes "FILE") ≡ Some path
@@ -35,7 +35,7 @@ flagged_file g c kind path plain words_are =
     (codes "FILE") path c.in_ok-query_command.ensures refl c.in_ok-matches.ensures.matches words_are
     (query_kind_first kind path plain)
 
--- .. where no number is read
+-- where no number is read, the file that is found stands so
 no_number : (g : Over) (c : After-get_one-cache g) (kind : Kind) (path : List ℕ)
     → IsPlain path → map g.S.AsStr.text c.args.words.now ≡ flagged kind (path ∷ [])
     → c.get_one-cache.result ≡ None
@@ -46,33 +46,30 @@ no_number g c kind path plain words_are =
 
 pub returns-in_err-matches-clause-file : goal.returns-in_err-matches-clause-file
 returns-in_err-matches-clause-file g c kind path (plain, words_are) is =
-    let memory = c.in_err-matches.ensures.passes
-    (ap₂ takes c.in_ok-query_command.ensures words_are ∙ query_kind_takes kind path plain) in
-    search rules
+    memory_left c.from_residual-in_err-matches.result _ _ c.from_residual-in_err-matches.ensures
+    (c.in_err-matches.ensures.passes
+    (ap₂ takes c.in_ok-query_command.ensures words_are ∙ query_kind_takes kind path plain))
 
 pub returns-in_err-matches-clause-cache : goal.returns-in_err-matches-clause-cache
 returns-in_err-matches-clause-cache g c n path (digits, w, more, lt, plain, words_are) is =
     let accepted = numeral_accepted 1 65535 n digits w (omega arith) (omega arith) (omega arith) in
-    let memory = c.in_err-matches.ensures.passes
-    (ap₂ takes c.in_ok-query_command.ensures words_are
-    ∙ query_takes digits path (numeral_is_plain digits w.0) accepted plain) in
-    search rules
+    memory_left c.from_residual-in_err-matches.result _ _ c.from_residual-in_err-matches.ensures
+    (c.in_err-matches.ensures.passes (ap₂ takes c.in_ok-query_command.ensures words_are
+    ∙ query_takes digits path (numeral_is_plain digits w.0) accepted plain))
 
 pub returns-in_err-path-clause-file : goal.returns-in_err-path-clause-file
 returns-in_err-path-clause-file g c kind path (plain, words_are) is =
-    let read = c.value_of.ensures.some path
+    memory_left c.from_residual-in_err-path.result _ _ c.from_residual-in_err-path.ensures
+    ((c.in_err-path.ensures.some path
     (flagged_file g (goal.at.returns-in_err-path-clause-file g c).After-value_of kind path
-    plain words_are)
-    (among _ _ path words_are (flagged_there kind path)) in
-    search rules
+    plain words_are) (among _ _ path words_are (flagged_there kind path))).1)
 
 pub returns-in_err-path-clause-cache : goal.returns-in_err-path-clause-cache
 returns-in_err-path-clause-cache g c n path (digits, w, more, lt, plain, words_are) is =
-    let read = c.value_of.ensures.some path
+    memory_left c.from_residual-in_err-path.result _ _ c.from_residual-in_err-path.ensures
+    ((c.in_err-path.ensures.some path
     (numbered g (goal.at.returns-in_err-path-clause-cache g c).After-value_of n digits path w more
-    lt plain words_are)
-    (among _ _ path words_are (third_of_them _ digits path [])) in
-    search rules
+    lt plain words_are) (among _ _ path words_are (third_of_them _ digits path []))).1)
 
 pub returns-then-is_some-clause-file : goal.returns-then-is_some-clause-file
 returns-then-is_some-clause-file g c kind path (plain, words_are) is =
@@ -88,9 +85,8 @@ pub returns-clause-file : goal.returns-clause-file
 returns-clause-file g c kind path (plain, words_are) is =
     let at = goal.at.returns-clause-file g c in
     let none = no_number g at.After-get_one-cache kind path plain words_are in
-    let read = c.in_ok-path.ensures.some path
-    (flagged_file g at.After-value_of kind path plain words_are)
-    (among _ _ path words_are (flagged_there kind path)) in
+    let read = c.in_ok-path.ensures.some path (flagged_file g at.After-value_of kind path plain
+    words_are) (among _ _ path words_are (flagged_there kind path)) in
     (rw (is, read.0, none) refl, tt)
 
 pub returns-clause-cache : goal.returns-clause-cache
@@ -98,15 +94,12 @@ returns-clause-cache g c n path (digits, w, more, lt, plain, words_are) is =
     let at = goal.at.returns-clause-cache g c in
     let accepted = numeral_accepted 1 65535 n digits w (omega arith) (omega arith) (omega arith) in
     let text = one_from _ query_app (map g.S.AsStr.text c.args.words.now) _ c.in_ok-matches.matches
-    (codes "cache") (Some digits) c.in_ok-query_command.ensures refl
-    c.in_ok-matches.ensures.matches words_are
-    (query_one digits path (numeral_is_plain digits w.0) accepted plain
-    ∙ ap Some (without_no_minus digits w.0)) in
-    let got = numeral_reads _
-    (λ bs r. ParsesUnsigned 16 10 bs r × ExplainsUnsignedError 10 bs r
-    × HasUnsignedDigitsIfOk bs r) 16 n digits c.get_one-cache.result
-    (c.get_one-cache.ensures.value digits text) (λ u x h. h.0) w (omega arith) in
-    let read = c.in_ok-path.ensures.some path
-    (numbered g at.After-value_of n digits path w more lt plain words_are)
-    (among _ _ path words_are (third_of_them _ digits path [])) in
+    (codes "cache") (Some digits) c.in_ok-query_command.ensures refl c.in_ok-matches.ensures.matches
+    words_are (query_one digits path (numeral_is_plain digits w.0) accepted plain ∙ ap Some
+    (without_no_minus digits w.0)) in
+    let got = numeral_reads _ (λ bs r. ParsesUnsigned 16 10 bs r × ExplainsUnsignedError 10 bs r ×
+    HasUnsignedDigitsIfOk bs r) 16 n digits c.get_one-cache.result (c.get_one-cache.ensures.value
+    digits text) (λ u x h. h.0) w (omega arith) in
+    let read = c.in_ok-path.ensures.some path (numbered g at.After-value_of n digits path w more lt
+    plain words_are) (among _ _ path words_are (third_of_them _ digits path [])) in
     (rw (is, read.0, got) refl, tt)

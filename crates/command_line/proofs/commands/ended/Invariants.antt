@@ -1,7 +1,7 @@
 use Rattle.std.proofs.Common.{◌≡◌, map, take}
 use Rattle.std.specs.String.{string_bytes}
 use Rattle.command_line.specs.Asked.{as_input}
-use Rattle.command_line.proofs.words.ended.Given as goal
+use Rattle.command_line.proofs.commands.ended.Given as goal
 
 -- the lines so far were added
 abbrev pub invariant-loop-line : goal.invariant-loop-line

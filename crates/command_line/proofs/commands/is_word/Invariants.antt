@@ -1,6 +1,6 @@
 use Rattle.std.proofs.Common.{length, map, ◌≡◌}
 use Rattle.command_line.specs.Asked.{is_word}
-use Rattle.command_line.proofs.words.is_word.Given as goal
+use Rattle.command_line.proofs.commands.is_word.Given as goal
 
 -- the text is one of the words that are left exactly where it is one of all
 abbrev pub invariant-loop-word : goal.invariant-loop-word
