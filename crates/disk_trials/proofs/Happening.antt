@@ -1,7 +1,6 @@
 -- What one more event does to a disk.
-use Rattle.std.proofs.Common.{◌≡◌, ◌≢◌, ℕ, ◌⊎◌, inl, inr, ⊎_elim, List, [], ◌∷◌, Bool, true, false, ◌&&◌, ◌||◌}
-use Rattle.std.proofs.Common.{IsTrue, Option, Some, None, String, Global, refl, sym, ap, subst, ◌∙◌}
-use Rattle.std.specs.Prelude.{if◌then◌else◌}
+use Rattle.std.proofs.Common.{◌≡◌, ◌≢◌, ℕ, ◌⊎◌, inl, inr, ⊎_elim, List, [], ◌∷◌, Bool, true, false, ◌&&◌, ◌||◌, IsTrue}
+use Rattle.std.proofs.Common.{Option, Some, None, String, Global, refl, sym, ap, subst, ◌∙◌, if◌then◌else◌}
 use Rattle.std.specs.Bool.{Decides}
 use Rattle.std.specs.Global.{Vec}
 use Rattle.std.specs.String.{string_bytes}
@@ -68,12 +67,12 @@ same_is (Some a) (Some b) =
 same_is None (Some b) = (λ e. cc, λ e. cc)
 same_is (Some a) None = (λ e. cc, λ e. cc)
 
--- a name is that of its own place ..
+-- a name is that of its own place
 here : (s : String Global) (name : List ℕ) → string_bytes s ≡ name
     → has_name (0, name) (string_bytes s) ≡ true
 here s name is = (has_place (0, name) (string_bytes s)).1 (ap (λ n. (0, n)) (sym is))
 
--- .. and of no other one
+-- a name is that of no place but its own
 elsewhere : (s : String Global) (name : List ℕ) → string_bytes s ≡ name → (place : ℕ × List ℕ)
     → place ≢ (0, name) → has_name place (string_bytes s) ≡ false
 elsewhere s name is place other = not_true _
@@ -238,7 +237,7 @@ steps Step event old new is step now past told =
       subst (λ m. Step m (moment (event ∷ old))) first step,
     )
 
--- the moment after a file was made ..
+-- the moment after a file was made
 pub creates : (name : List ℕ) (file : ℕ) (old new : List Event)
     → IsNamed name name (Some file) old new → at old (0, name) ≡ None
     → mentions old file ≡ false
@@ -248,7 +247,7 @@ creates name file old new is free fresh =
     steps (Creates (0, name)) (Named is.gone is.given (Some file)) old new is.event
     (created is.gone is.given name is.gone_is is.given_is file old free fresh)
 
--- .. after it got another name ..
+-- the moment after a file got another name
 pub renames : (from to : List ℕ) (file : Option ℕ) (old new : List Event)
     → IsNamed from to file old new → file ≡ at old (0, from)
     → Steps (Renames (0, from) (0, to)) (Some (moment old ∷ earlier old))
@@ -257,7 +256,7 @@ renames from to file old new is there =
     steps (Renames (0, from) (0, to)) (Named is.gone is.given file) old new is.event
     (renamed is.gone is.given from to is.gone_is is.given_is file old there)
 
--- .. and after it was taken away
+-- the moment after a file was taken away
 pub removes : (name : List ℕ) (old new : List Event) → IsNamed name name None old new
     → Steps (Removes (0, name)) (Some (moment old ∷ earlier old))
     (Some (moment new ∷ earlier new))

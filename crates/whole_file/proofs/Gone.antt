@@ -21,7 +21,7 @@ gone_removed place Kept now rest told ended is (inl steps) =
     let step = steps now rest is in
     inl (last_so (IsFree place) step.0 (now ∷ rest) ended step.1 step.2.gone)
 
--- .. after its bytes were made sure of, where it got no other name
+-- it was taken away after its bytes were made sure of, where it got no other name
 pub gone_unnamed : (place : ℕ × List ℕ) (bytes : List ℕ) (Kept : Type 0) (first : Moment)
     (past : List Moment) (told sure same ended : Option (List Moment)) → told ≡ Some (first ∷ past)
     → Steps (Settles place bytes) told sure → same ≡ sure
@@ -41,7 +41,7 @@ gone_unsure from to bytes first past told sure named ended apart is settled rena
     last_so (IsFree from) next.0 (step.0 ∷ first ∷ past) ended (same ∙ next.1)
     (next.2.gone apart)
 
--- .. or they were
+-- it got its last name, and the names of the folder were made sure of, or not
 pub gone_named : (paths : Paths) (folder : ℕ) (from to : ℕ × List ℕ) (bytes : List ℕ)
     (first : Moment) (past : List Moment) (told sure named ended : Option (List Moment)) (b : Bool)
     → from ≢ to → told ≡ Some (first ∷ past) → Steps (Settles from bytes) told sure

@@ -25,7 +25,7 @@ one_end (suc n) (suc k) paths from a b p enda q endb =
     one_end n k paths (linked from p.0) a b p.2 enda
     (subst (λ target. LeadsBy k paths (linked from target) b) (sym same) q.2) endb
 
--- .. so the two are one
+-- the two paths that are no links to which one leads are one
 pub one_place : (paths : Paths) (from a b : List ℕ) → LeadsTo paths from a → LeadsTo paths from b
     → a ≡ b
 one_place paths from a b p q =

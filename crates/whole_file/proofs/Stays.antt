@@ -1,7 +1,6 @@
 -- A place stays as it was.
-use Rattle.std.proofs.Common.{◌≡◌, ◌≢◌, ℕ, inl, inr, ⊎_elim, List, [], ◌∷◌, ◌++◌, Option, Some, None, sym}
-use Rattle.std.proofs.Common.{subst, ap, ◌∙◌, append_assoc, ◌⊎◌, Bool, true, false, IsTrue}
-use Rattle.std.specs.Prelude.{IsSomeAnd}
+use Rattle.std.proofs.Common.{◌≡◌, ◌≢◌, ℕ, inl, inr, ⊎_elim, List, [], ◌∷◌, ◌++◌, Option, Some, None, sym, subst, ap}
+use Rattle.std.proofs.Common.{◌∙◌, append_assoc, ◌⊎◌, Bool, true, false, IsTrue, IsSomeAnd}
 use Rattle.std.specs.String.{string_bytes}
 use Rattle.whole_file.specs.Disks.{Moment, IsSameAt, IsStill, Creates, Settles, Renames, Removes, Steps, AllOf, Goes}
 use Rattle.whole_file.specs.Disks.{Lastly, Runs, StaysAt}
@@ -35,7 +34,7 @@ same_again place old mid new p q = record {
   sure = λ file may. q.sure file may ∙ p.sure file (q.crash (Some file) may);
 }
 
--- .. after more moments
+-- the same after more moments
 pub runs_on : (Each : Moment → Moment → Type 0)
     → ((old mid new : Moment) → Each old mid → Each mid new → Each old new)
     → (now : Moment) (past since : List Moment) (mid new : Option (List Moment))
@@ -133,7 +132,7 @@ goes_settled from place bytes now past old new own is steps =
           (subst (λ crash. IsTrue (crash place (Some file))) step.2.crash may));
     }
 
--- .. at the one place to which a path leads
+-- a file stays at the one place to which a path leads
 pub path_stays : (paths : Paths) (path place : List ℕ) (old new : Option (List Moment))
     → ((moments : List Moment) → old ≡ Some moments → LeadsTo paths path place)
     → StaysAt (place_of paths place) old new → PathStays paths path old new
@@ -147,13 +146,13 @@ path_stays paths path place old new leads stays now past is =
           (one_place paths path place to (leads (now ∷ past) is) other) same) goes.since goes.each;
     }
 
--- .. where nothing has changed
+-- a file stays at that place where nothing has changed
 pub path_stays_same : (paths : Paths) (path : List ℕ) (old new : Option (List Moment))
     → new ≡ old → PathStays paths path old new
 path_stays_same paths path old new same now past is =
     record { since = []; told_is = same ∙ is; each = tt }
 
--- .. where a disk that tells its moments stays as it was
+-- a file stays at that place where a disk that tells its moments stays as it was
 pub path_stays_still : (paths : Paths) (path : List ℕ) (old new : Option (List Moment))
     → IsStill old new → PathStays paths path old new
 path_stays_still paths path old new still now past is =
@@ -205,7 +204,7 @@ pub goes_alone : (paths : Paths) (names : Names) (first : Moment) (past : List M
 goes_alone paths names first past told alone p other =
     goes_once _ _ _ _ alone.told_is (alone.others p other)
 
--- .. so it is at the place of a draft
+-- a file stays at the place of a draft
 pub ready_stays : (paths : Paths) (names : Names) (place : List ℕ) (contents : Option (List ℕ))
     (old new : Option (List Moment)) → string_bytes names.place ≡ place
     → IsReady paths names contents old new → StaysAt (place_of paths place) old new
@@ -227,7 +226,7 @@ begun_later paths path (Some names) contents old mid new still begun = (
   λ first past is. begun.2 first past (still first past is ∙ is),
 )
 
--- .. at the place that was found
+-- what was begun stays at the place that was found
 pub begun_beside : (paths : Paths) (path place : List ℕ) (names : Option Names)
     (contents : Option (List ℕ)) (old new : Option (List Moment))
     → ((moments : List Moment) → old ≡ Some moments → LeadsTo paths path place)
@@ -255,7 +254,7 @@ stays_dropped paths names place contents old mid new same is_ready gone first pa
     (ready_stays paths names place contents old mid same is_ready first past is)
     (stays_gone _ _ mid new (λ e. draft.apart (e ∙ ap (place_of paths) (sym same))) gone)
 
--- .. and all others
+-- a draft that is taken away again leaves all other places as they were
 pub tidy_dropped : (paths : Paths) (names : Names) (contents : Option (List ℕ))
     (old mid new : Option (List Moment)) (Kept : Type 0) → IsReady paths names contents old mid
     → RemovesOrStays (place_of paths (string_bytes names.new)) mid new

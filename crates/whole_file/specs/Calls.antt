@@ -1,4 +1,4 @@
--- What the calls of a disk answer. Source: this project's profile.
+-- What the calls of a disk answer.
 use Rattle.std.specs.Prelude.{◌≡◌, ◌≢◌, ℕ, ◌⊎◌, List, [], Bool, true, false, IsTrue, Option, Some, None, Result, OnOk}
 use Rattle.std.specs.String.{string_bytes}
 use Rattle.whole_file.specs.Disks.{Moment, Steps, Creates, Removes, SettlesNames}

@@ -1,4 +1,4 @@
--- A disk: what its names have, and what a crash may leave of it. Source: this project's profile.
+-- A disk: what its names have, and what a crash may leave of it.
 use Rattle.std.specs.Prelude.{◌≡◌, ◌≢◌, ℕ, ◌⊎◌, List, [], ◌∷◌, ◌++◌, Bool, IsTrue, Option, Some, None}
 
 -- a disk at one moment, and what a crash at that moment may leave of it. A place is a name in a

@@ -1,4 +1,4 @@
--- A draft: a new file that is to take the place of an old one. Source: this project's profile.
+-- A draft: a new file that is to take the place of an old one.
 use Rattle.std.specs.Prelude.{◌≡◌, ◌≢◌, ℕ, ◌⊎◌, List, [], ◌∷◌, IsTrue, Option, Some, None, Result, Ok, Err}
 use Rattle.std.specs.String.{string_bytes}
 use Rattle.whole_file.specs.Disks.{Moment, Holds, IsFree, IsSameAt, MayLeave, Goes, Lastly}
@@ -125,12 +125,14 @@ abbrev pub IsTidy : Option (List Moment) → Option (List Moment) → Type 0 →
 IsTidy old new Kept = (first : Moment) (past : List Moment) → old ≡ Some (first ∷ past)
     → (new ≡ old) ⊎ IsTidied (λ _. Unit {0}) first past new Kept
 
--- .. and the place to which a path leads stays as it was
+-- where a disk tells its moments, all other places and the one to which a path leads stay as they
+-- were
 abbrev pub IsLeft : Paths → List ℕ → Option (List Moment) → Option (List Moment) → Type 0 → Type 0
 IsLeft paths path old new Kept = PathStays paths path old new × IsTidy old new Kept
 
--- .. or that one may have changed; or, as no file can take that place, the old one was
--- emptied, to be written straight, and the disk tells nothing more
+-- where a disk tells its moments, all other places stay, or that one may have changed; or, as no
+-- file can take that place, the old one was emptied, to be written straight, and the disk tells
+-- nothing more
 abbrev pub IsTidyBesides : Paths → List ℕ → Option (List Moment) → Option (List Moment) → Type 0
     → Type 0
 IsTidyBesides paths path old new Kept = (first : Moment) (past : List Moment)

@@ -1,5 +1,5 @@
 -- The text of a path: the folder before its last slash and the name behind it, and where a link
--- leads. Source: this project's profile.
+-- leads.
 use Rattle.std.specs.Prelude.{◌≡◌, ℕ, zero, suc, ◌<◌, ◌⊎◌, Bool, true, IsTrue, ◌||◌, List, ◌∷◌, ◌++◌}
 use Rattle.std.specs.Prelude.{Option, Some, None, codes, if◌then◌else◌}
 use Rattle.std.specs.List.{starts_with}
@@ -69,7 +69,7 @@ abbrev pub IsSameBehind : Paths → List ℕ → Moment → Moment → Type 0
 IsSameBehind paths path old new =
     (to : List ℕ) → LeadsTo paths path to → IsSameAt (place_of paths to) old new
 
--- .. so it stays
+-- the place to which a path leads stays as it was, also after a crash
 abbrev pub PathStays : Paths → List ℕ → Option (List Moment) → Option (List Moment) → Type 0
 PathStays paths path old new = Runs (IsSameBehind paths path) old new
 
@@ -93,7 +93,7 @@ pub record IsFixed (paths : Paths) (path : List ℕ) : Type 0 where
   pub why : (is_open_name to ≡ true) ⊎ (40 < links)
       ⊎ ((paths.link to ≡ None) × IsTrue (paths.fixed (paths.folder (folder_of to))))
 
--- .. on a disk that tells its moments
+-- no file can take the place to which a path leads, on a disk that tells its moments
 abbrev pub IsFixedOn : Paths → List ℕ → Option (List Moment) → Type 0
 IsFixedOn paths path told =
     (first : Moment) (past : List Moment) → told ≡ Some (first ∷ past) → IsFixed paths path

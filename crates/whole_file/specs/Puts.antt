@@ -1,4 +1,4 @@
--- A whole file is put where a path leads. Source: this project's profile.
+-- A whole file is put where a path leads.
 use Rattle.std.specs.Prelude.{◌≡◌, ℕ, ◌⊎◌, List, ◌∷◌, IsTrue, Option, Some, None}
 use Rattle.whole_file.specs.Disks.{Moment, Holds, Goes, Lastly}
 use Rattle.whole_file.specs.Drafts.{IsOldOrWhole, IsWhole}

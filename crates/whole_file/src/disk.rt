@@ -8,9 +8,11 @@ ghost use Rattle.whole_file.specs.Calls.{AnswersLink, AnswersMade, AnswersSettle
 use std::alloc::{AllocError, Global};
 use std::io;
 use std::io::{Read, Seek, Write};
+use thiserror::Error;
 
 /// A call of the disk failed.
-#[derive(Clone, Copy, Debug, PartialEq, Eq)]
+#[derive(Clone, Copy, Debug, PartialEq, Eq, Error)]
+#[error("the call of the disk failed")]
 pub struct DiskFault;
 
 /// What the disk says of a file.
@@ -146,8 +148,7 @@ pub trait Disk {
         ensures emptied { result ≡ true → told self.new ≡ None }
         ensures failed { result ≡ false → told self.new ≡ told self.old };
 
-    /// Makes sure of the bytes that were written into a file which was made at this path, and hands
-    /// it back.
+    /// Syncs a file that was created at this path, and returns it.
     fn settle(&mut self, file: Self::File, path: &str) -> Result<Self::File, DiskFault>
         ensures paths { paths self.new ≡ paths self.old }
         ensures settled { OnOk result ((bytes : List ℕ) → Self.File.contents file ≡ Some bytes
@@ -155,8 +156,7 @@ pub trait Disk {
             (told self.old) (told self.new)) }
         ensures failed { OnErr result (told self.new ≡ told self.old) };
 
-    /// Makes sure of the bytes that were written into an old file, where it is a plain one, and
-    /// closes it.
+    /// Syncs an old file, if it is a regular one, and closes it.
     fn close(&mut self, file: Self::File) -> Result<(), DiskFault>
         ensures paths { paths self.new ≡ paths self.old }
         ensures stays { told self.old ≡ None → told self.new ≡ None }

@@ -28,8 +28,7 @@ const NAMES: u16 = u16::MAX;
 /// How many symbolic links are followed, one after another, as by the system.
 const LINKS: u8 = 40;
 
-/// How often a file is begun anew whose name was given to another one before it was begun, as by
-/// another run that put its new file there.
+/// How often a write starts again if another program replaces the file first.
 const TRIES: u16 = 1000;
 
 /// A file that is being written, by blocks.
@@ -95,14 +94,8 @@ fn begin_once<D: Disk>(
         (D.told disk.old) (D.told disk.new) (D.kept disk.new)) }
 {
     match disk.open(path) {
-        Ok(Some(old)) => match begin_over(disk, alloc, path, old) {
-            Ok(draft) => Ok(draft),
-            Err(fault) => Err(fault),
-        },
-        Ok(None) => match begin_anew(disk, alloc, path) {
-            Ok(draft) => Ok(Some(draft)),
-            Err(fault) => Err(fault),
-        },
+        Ok(Some(old)) => begin_over(disk, alloc, path, old),
+        Ok(None) => Ok(Some(begin_anew(disk, alloc, path)?)),
         Err(_) => Err(DraftFault::Open),
     }
 }
@@ -126,17 +119,11 @@ fn begin_over<D: Disk>(
         return Err(DraftFault::Open);
     };
     if !told.is_plain {
-        return match straight(alloc, old) {
-            Ok(draft) => Ok(Some(draft)),
-            Err(fault) => Err(fault),
-        };
+        return Ok(Some(straight(alloc, old)?));
     }
     match begin_in_place(disk, alloc, path, &told)? {
         Some(begun) => Ok(begun),
-        None => match begin_straight(disk, alloc, path, old, &told) {
-            Ok(draft) => Ok(draft),
-            Err(fault) => Err(fault),
-        },
+        None => begin_straight(disk, alloc, path, old, &told),
     }
 }
 
@@ -365,10 +352,7 @@ fn create_at<D: Disk>(
     if name_of(new) == name_of(place) {
         return Ok(Made::Taken);
     }
-    match disk.create(new, mode) {
-        Ok(made) => Ok(made),
-        Err(_) => Err(DraftFault::Open),
-    }
+    disk.create(new, mode).map_err(|_| DraftFault::Open)
 }
 
 /// A draft in a new file, which is taken away where there is no room.
@@ -418,12 +402,11 @@ fn straight<D: Disk>(alloc: Global, file: D::File) -> Result<Draft<D>, DraftFaul
 }
 
 impl<D: Disk> Draft<D> {
-    /// Ends a file whose bytes were all handed on, or one at which a fault came, which is then
-    /// answered: the new file is taken away, and the old one stays. Else `Write` where the bytes
-    /// can't be brought to the disk or the new file can't take the place of the old one, with the
-    /// same after it, and where that place can't be brought to the disk: then the new file has it.
-    /// No memory is taken. Under its first name the new file stays only where the disk fails to
-    /// take it away.
+    /// Finishes a file after its last byte, or after a fault, which it returns: the new file is
+    /// taken away, and the old one stays. Else `Write` where the bytes can't be brought to the
+    /// disk or the new file can't take the place of the old one, with the same after it, and where
+    /// that place can't be brought to the disk: then the new file has it. No memory is taken.
+    /// Under its first name the new file stays only where the disk fails to take it away.
     pub fn finish(self, disk: &mut D, written: Result<(), DraftFault>) -> Result<(), DraftFault>
         ensures paths { D.paths disk.new ≡ D.paths disk.old }
         ensures fault { IfErr written (λ fault. result ≡ Err fault) }
@@ -503,10 +486,7 @@ fn close<D: Disk>(disk: &mut D, writer: BufWriter<D::File>) -> Result<(), DraftF
     let Ok(file) = writer.into_inner() else {
         return Err(DraftFault::Write);
     };
-    match disk.close(file) {
-        Ok(()) => Ok(()),
-        Err(_) => Err(DraftFault::Write),
-    }
+    disk.close(file).map_err(|_| DraftFault::Write)
 }
 
 /// Makes sure of the bytes of a new file that was written to its end.
@@ -543,7 +523,7 @@ fn names_file<D: Disk>(disk: &mut D, path: &str, file: &D::File) -> bool
     }
 }
 
-/// Gives a new file that was made sure of its last name, where it still has its first one.
+/// Renames a synced new file to its final name, if it still has its first one.
 fn rename<D: Disk>(disk: &mut D, names: &Names, file: &D::File) -> Result<(), DraftFault>
     ensures paths { D.paths disk.new ≡ D.paths disk.old }
     ensures renamed { OnOk result (Steps (Renames
@@ -556,10 +536,8 @@ fn rename<D: Disk>(disk: &mut D, names: &Names, file: &D::File) -> Result<(), Dr
     if !names_file(disk, names.new.as_str(), file) {
         return Err(DraftFault::Write);
     }
-    match disk.rename(names.new.as_str(), names.place.as_str()) {
-        Ok(()) => Ok(()),
-        Err(_) => Err(DraftFault::Write),
-    }
+    disk.rename(names.new.as_str(), names.place.as_str())
+        .map_err(|_| DraftFault::Write)
 }
 
 /// Takes a new file away, where that can be done.
@@ -582,10 +560,8 @@ fn settle_names<D: Disk>(disk: &mut D, names: &Names) -> Result<bool, DraftFault
     ensures failed { OnErr result (D.told disk.new ≡ D.told disk.old) }
     ensures fault { IfErr result (λ fault. fault ≡ Write) }
 {
-    match disk.settle_names(names.folder.as_str()) {
-        Ok(settled) => Ok(settled),
-        Err(_) => Err(DraftFault::Write),
-    }
+    disk.settle_names(names.folder.as_str())
+        .map_err(|_| DraftFault::Write)
 }
 
 /// Puts a new file that was written to its end in its place; where that fails, takes it away.

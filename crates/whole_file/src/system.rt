@@ -77,10 +77,8 @@ where
     }
 
     fn facts(&mut self, file: &R::File) -> Result<FileFacts, DiskFault> {
-        match file.metadata() {
-            Ok(told) => Ok(facts(&told)),
-            Err(_) => Err(DiskFault),
-        }
+        let told = file.metadata().map_err(|_| DiskFault)?;
+        Ok(facts(&told))
     }
 
     fn facts_behind(&mut self, path: &str) -> Result<Option<FileFacts>, DiskFault> {
@@ -101,8 +99,8 @@ where
         }
     }
 
-    /// The system tells whether a name can be taken away first where it is asked to remove a
-    /// folder, and a file stays whatever it tells.
+    /// Asks by removing a folder of that name, which fails for a file. The error says whether the
+    /// name could be removed.
     fn can_be_replaced(&mut self, path: &str) -> bool {
         match fs::remove_dir(self.files, path) {
             Ok(()) => true,
@@ -157,8 +155,7 @@ where
         fs::remove_file(self.files, path).map_err(|_| DiskFault)
     }
 
-    /// A folder that may not be read, and a file system that can't do that, can't make sure of
-    /// names.
+    /// A folder that may not be read, or a file system without support, can't sync names.
     fn settle_names(&mut self, folder: &str) -> Result<bool, DiskFault> {
         let synced = match fs::open(self.files, folder) {
             Ok(opened) => opened.sync_all(),

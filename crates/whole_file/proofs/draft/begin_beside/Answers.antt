@@ -1,6 +1,5 @@
 -- A new file that is given back leaves its place as it was.
-use Rattle.std.proofs.Common.{◌≡◌, ◌∙◌, ◌∷◌, subst, sym}
-use Rattle.std.specs.Prelude.{IsSomeAnd}
+use Rattle.std.proofs.Common.{◌≡◌, ◌∙◌, ◌∷◌, subst, sym, IsSomeAnd}
 use Rattle.std.specs.Io.Buffered.{writer_contents}
 use Rattle.std.specs.String.{string_bytes}
 use Rattle.whole_file.specs.Drafts.{IsReady}
