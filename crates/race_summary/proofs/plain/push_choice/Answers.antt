@@ -1,0 +1,11 @@
+-- The numbers of a play were added.
+use Rattle.race_summary.proofs.Printed.{adds_then, adds_end}
+use Rattle.race_summary.proofs.plain.push_choice.Goals as goal
+
+pub returns-clause-values : goal.returns-clause-values
+returns-clause-values c = adds_then c.push_field.ensures.values
+    (adds_then c.indent.ensures.values
+    (adds_then c.push_words.ensures.values
+    (adds_then c.push_value.ensures.values
+    (adds_then c.indent-2.ensures.values
+    (adds_end c.push_value-2.ensures.values c.push_words-2.ensures.values)))))
