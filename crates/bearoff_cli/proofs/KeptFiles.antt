@@ -1,17 +1,9 @@
 -- Where a path leads stands the old file or the whole new one, however a command ends.
-use Rattle.std.proofs.Common.{◌≡◌, ℕ, ◌<◌, inl, inr, ⊎_elim, List, [], ◌∷◌, ◌++◌, Option, Some, None, Result, Ok, Err}
-use Rattle.std.proofs.Common.{refl, sym, subst, ap, ◌∙◌, arith}
-use Rattle.std.specs.Prelude.{OnOk, OnErr}
+use Rattle.std.proofs.Common.{◌≡◌, ℕ, inl, inr, ⊎_elim, List, [], ◌∷◌, ◌++◌, Option, Some, None, Result, Ok, Err, refl}
+use Rattle.std.proofs.Common.{sym, subst, ap, ◌∙◌, OnOk, OnErr}
 use Rattle.std.specs.Io.KnownBytes.{Appends}
 use Rattle.std.specs.String.{string_bytes}
-use Rattle.command_line.specs.Asked.{Asked, default, build, check, query, ask, about, audit, upgrade}
-use Rattle.bearoff_cli.specs.Lines.{status_of}
-use Rattle.bearoff_cli.specs.declared.act.ProgramFault.TheVariants.{Failed}
-use Rattle.bearoff_cli.specs.declared.fault.Fault.{Fault}
-use Rattle.bearoff_cli.specs.declared.fault.Fault.TheVariants.{Memory}
-use Rattle.bearoff_cli.specs.FileAnswers.{IsReadFrom}
-use Rattle.bearoff_cli.specs.Requests.{EndsAs}
-use Rattle.bearoff_cli.proofs.ToldFaults.{memory_refusal}
+use Rattle.command_line.specs.Asked.{Asked, default, build, query, show, upgrade}
 use Rattle.whole_file.specs.Disks.{Moment, IsSameAt, AllOf, Goes}
 use Rattle.whole_file.specs.Drafts.{IsOldOrWhole, IsBegun, IsDropped, IsPut}
 use Rattle.whole_file.specs.Paths.{Paths, IsSameBehind, LeadsTo, PathStays, place_of}
@@ -21,8 +13,7 @@ use Rattle.whole_file.proofs.Links.{one_place}
 use Rattle.whole_file.proofs.Puts.{handed_all, old_twice, same_old}
 use Rattle.whole_file.proofs.Stays.{all_so, path_stays_same, runs_on, told_on}
 use Rattle.bearoff_cli.specs.Kinds.{IsBuiltOf}
-use Rattle.bearoff_cli.specs.PutFiles.{IsEnded, IsKeptAt, KeepsAll, KeepsBehind, LeavesFor}
-use Rattle.bearoff_cli.specs.PutFiles.{LeavesInput}
+use Rattle.bearoff_cli.specs.PutFiles.{IsEnded, IsKeptAt, KeepsAll, KeepsBehind, LeavesFor, LeavesInput}
 
 -- at the last moment there stands what stood at the first one
 stood : (place : ℕ × List ℕ) (first last : Moment) (past before since : List Moment)
@@ -51,7 +42,7 @@ kept_same paths to Whole first past new goes =
           inl (stood place first last past before goes.since goes.each (sym goes.told_is ∙ told));
     }
 
--- .. so it is at the place to which a path leads
+-- a place that is kept is so at the place to which a path leads
 goes_there : (paths : Paths) (path to : List ℕ) (first : Moment) (past : List Moment)
     (new : Option (List Moment)) → LeadsTo paths path to
     → Goes (IsSameBehind paths path first) (first ∷ past) new
@@ -70,7 +61,7 @@ keeps_stays paths path old new Whole stays first past is to leads =
     inr (kept_same paths to Whole first past new
     (goes_there paths path to first past new leads (stays first past is)))
 
--- .. and all others, where nothing changed
+-- where nothing changed, a path and all others are kept
 pub keeps_all : (paths : Paths) (path : List ℕ) (old : Option (List Moment))
     (Whole : List ℕ → Type 0) (Kept : Type 0) → KeepsAll paths path Whole old old Kept
 keeps_all paths path old Whole Kept = (
@@ -173,44 +164,16 @@ kept_ended paths (Some names) contents old new (Err fault) is_put =
     }
 
 -- a request that changes nothing leaves the disk for each
-pub leaves_same : (paths : Paths) (asked : Asked) (old : Option (List Moment)) (Kept : Type 0)
-    → LeavesFor paths asked old old Kept
-leaves_same paths default old Kept = refl
-leaves_same paths (build kind pips path) old Kept =
+pub leaves_same : {F : Type 0} (remaining : F → Option (List ℕ)) (paths : Paths) (asked : Asked)
+    (old : Option (List Moment)) (Kept : Type 0) → LeavesFor remaining paths asked old old Kept
+leaves_same remaining paths (build kind pips path) old Kept =
     keeps_all paths path old (IsBuiltOf kind pips) Kept
-leaves_same paths (check kind path) old Kept = refl
-leaves_same paths (query kind path records) old Kept = refl
-leaves_same paths (ask path lines) old Kept = refl
-leaves_same paths (about path) old Kept = refl
-leaves_same paths (audit kind path) old Kept = refl
-leaves_same paths (upgrade before after) old Kept = inl refl
+leaves_same remaining paths (upgrade before after) old Kept = inl refl
+leaves_same remaining paths _ old Kept = refl
 
--- .. and the input
+-- a request that changes nothing leaves the input
 pub input_same : (asked : Asked) (input : Option (List ℕ)) → LeavesInput asked input input
 input_same default input = tt
-input_same (build kind pips path) input = refl
-input_same (check kind path) input = refl
 input_same (query kind path records) input = tt
-input_same (ask path lines) input = refl
-input_same (about path) input = refl
-input_same (audit kind path) input = refl
-input_same (upgrade before after) input = refl
-
--- where memory is wanting before anything was done, each request ends so
-pub memory_ends : {F W T : Type 0} (remaining : F → Option (List ℕ))
-    (contents : W → Option (List ℕ)) (paths : Paths) (told : Option (List Moment))
-    (Kept : Type 0) (input old : Option (List ℕ)) (asked : Asked)
-    → EndsAs {T = T} remaining contents paths told told Kept input input old old
-    (Err (Failed Memory)) asked
-memory_ends remaining contents paths told Kept input old asked = record {
-  fault = memory_refusal (IsReadFrom remaining paths told) asked input old;
-  done = tt;
-  put = tt;
-  leaves = leaves_same paths asked told Kept;
-  unread = input_same asked input;
-}
-
--- a fault of status 1 comes with no status over it
-pub low_status : {X : Type 0} (fault : Fault) (old new : X) → status_of fault ≡ 1
-    → 1 < status_of fault → new ≡ old
-low_status fault old new one more = absurd (omega (arith, one, more))
+input_same (show texts) input = tt
+input_same _ input = refl

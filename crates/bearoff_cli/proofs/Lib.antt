@@ -1,8 +1,5 @@
-mod CommandFaults
-mod Explained
+mod Endings
 mod KeptFiles
-mod Levels
 mod OpenedFiles
-mod Requests
 mod StoppedRuns
 mod ToldFaults

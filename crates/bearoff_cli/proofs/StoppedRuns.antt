@@ -1,35 +1,45 @@
 -- What stands in the output where a command failed, from what its parts wrote.
-use Rattle.std.proofs.Common.{◌≡◌, ℕ, suc, ◌≤◌, ◌⊎◌, inl, inr, List, ◌∷◌, [], ◌++◌, take, Option, Some, Result}
-use Rattle.std.proofs.Common.{Ok, Err, IfErr, refl, ap, subst, ◌∙◌, arith}
-use Rattle.std.specs.Prelude.{OnErr}
+use Rattle.std.proofs.Common.{◌≡◌, ℕ, suc, ◌≤◌, ◌⊎◌, inl, inr, List, ◌∷◌, [], ◌++◌, take, Option, Some, Result, Ok, Err}
+use Rattle.std.proofs.Common.{IfErr, refl, ap, subst, ◌∙◌, arith, OnErr}
 use Rattle.std.specs.Io.KnownBytes.{Keeps}
 use Rattle.std.proofs.lemmas.List.{append-nil}
-use Rattle.race_model.specs.BuiltFile.{IsBuilt}
-use Rattle.race_model.specs.Ranks.{count_to}
-use Rattle.race_model.specs.InputLines.{whole_lines, lines_of}
+use Rattle.race_model.specs.Prelude.{IsBuilt, whole_lines, lines_of, Book, bound_of}
 use Rattle.race_model.proofs.Replies.InputLines.{pieces_stay}
 use Rattle.retrograde.specs.UsualVersion.{usual_version}
-use Rattle.db_layout.specs.Writes.{AppendsPart}
 use Rattle.db_layout.proofs.Known.{appends_kept, appends_twice}
-use Rattle.race_model.specs.Books.{Book}
-use Rattle.race_model.specs.Files.{bound_of}
 use Rattle.db_layout.specs.declared.stated.Kind.{Kind}
 use Rattle.db_layout.specs.declared.stated.Kind.TheVariants.{Database}
 use Rattle.epc_query.specs.Runs.{HasAnswered, HasPart, HasReplies, IsRunStopped, IsStoppedAt}
 use Rattle.epc_query.specs.declared.run_fault.RunFault.{RunFault}
 use Rattle.epc_query.specs.declared.run_fault.RunFault.TheVariants.{Read, Write, Table, Memory, Turns}
+use Rattle.epc_query.specs.declared.run_fault.RunFault.TheVariants.{Turns as NoTurns}
 use Rattle.query_text.proofs.Held.{appends_same, part_after, part_all}
 use Rattle.epc_query.proofs.Runs.{failed_flush, flushed, read_front, stopped_in}
 use Rattle.bearoff_cli.specs.declared.fault.Fault.{Fault}
-use Rattle.bearoff_cli.specs.FileAnswers.{WritesLevels, count_line}
-use Rattle.epc_query.specs.Kinds.{IsRightAs}
-use Rattle.bearoff_cli.specs.Kinds.{kind_as, stated_kind}
-use Rattle.bearoff_cli.specs.StoppedRuns.{AreStopped, IsNothingOr, LeavesWords, WritesLevelsPart}
-use Rattle.bearoff_cli.specs.StoppedRuns.{WritesLevelPart}
-use Rattle.bearoff_cli.specs.Faults.{IsAnswerFault, UsesTurns}
-use Rattle.bearoff_cli.proofs.CommandFaults.{query_of_answer}
+use Rattle.bearoff_cli.specs.FileAnswers.{WritesLevels}
+use Rattle.epc_query.specs.Kinds.{IsRightAs, stated_kind}
+use Rattle.bearoff_cli.specs.Kinds.{kind_as}
+use Rattle.bearoff_cli.specs.Requests.{AreStopped, IsNothingOr, LeavesWords, WritesLevelsPart, WritesLevelPart}
+use Rattle.bearoff_cli.specs.Faults.{IsAmong, UsesTurns, answer_faults, opening, refusal, of_run}
+use Rattle.bearoff_cli.proofs.ToldFaults.{among_more}
 use Rattle.db_reader.specs.Telling.{WhereTold}
-use Rattle.bearoff_cli.specs.declared.act.Done.{Done}
+use Rattle.epc_query.specs.UsedReads.{HasUsed}
+
+-- ---- which faults a command can end with, from those of its parts
+
+-- a run stopped
+pub run_answer : (cause : RunFault) → IsAmong answer_faults (of_run cause)
+run_answer NoTurns = refl
+run_answer _ = refl
+
+-- a run whose reads ran out used so many
+pub run_turns : (input left : Option (List ℕ)) (cause : RunFault)
+    → WhereTold input (λ given. HasUsed 1099511627776 given left cause)
+    → UsesTurns input left (of_run cause)
+run_turns input left NoTurns used = used
+run_turns input left _ used = tt
+
+-- ---- what stands in the output
 
 -- whole lines of pip counts are a part of all lines
 pub levels_part : (kind : Kind) (file : List ℕ) (count : ℕ) (old new : Option (List ℕ))
@@ -43,7 +53,7 @@ levels_part kind file count old new within written = record {
   written = part_all old new written.lines written.written;
 }
 
--- .. and so are they with a part of the next one
+-- whole lines of pip counts with a part of the next one are a part of all lines
 pub levels_and_part : (kind : Kind) (file : List ℕ) (p : ℕ) (old mid new : Option (List ℕ))
     → p ≤ bound_of file → WritesLevels kind file p old mid → WritesLevelPart kind file p mid new
     → WritesLevelsPart kind file old new
@@ -55,15 +65,6 @@ levels_and_part kind file p old mid new within before next = record {
   written = part_after old mid new before.lines (next.line ++ 10 ∷ []) before.written
       next.written;
 }
-
--- a part of the line of a pip count and a number of positions that are those of a file
-pub line_part : (old new : Option (List ℕ)) (done : Done) (bound pips positions : ℕ)
-    → pips ≡ bound → positions ≡ count_to bound
-    → AppendsPart old new (count_line done pips positions)
-    → AppendsPart old new (count_line done bound (count_to bound))
-line_part old new done bound pips positions p q h =
-    subst (λ n. AppendsPart old new (count_line done bound n)) q
-    (subst (λ n. AppendsPart old new (count_line done n positions)) p h)
 
 -- what was written of a file that was read
 pub read_part : {A : Type 0} (kind : Option Kind) (From : List ℕ → Type 0)
@@ -79,7 +80,7 @@ pub may_be_stopped : {A : Type 0} (N : Type 0) (Stops : Fault → Type 0) (r : R
 may_be_stopped N Stops (Ok x) stops = tt
 may_be_stopped N Stops (Err e) stops = inr stops
 
--- .. over a file that was read
+-- a run over a file that was read stopped with nothing written, or so
 pub read_stopped : {A : Type 0} (kind : Option Kind) (From : List ℕ → Type 0)
     (file given : List ℕ) (left old new : Option (List ℕ)) (r : Result A Fault)
     → From file
@@ -91,15 +92,15 @@ read_stopped kind From file given left old new (Err e) read (inl same) = inl sam
 read_stopped kind From file given left old new (Err e) read (inr stops) =
     inr (file, read, stops.right, stops)
 
--- .. where the lines are words
+-- where the lines are words, a run over a file that was read stopped so
 pub words_stopped : (From : List ℕ → Type 0) (kind : Kind) (file words given : List ℕ)
     (rest old new : Option (List ℕ)) (fault : Fault) → From file → kind ≡ stated_kind file
-    → words ≡ given → IsAnswerFault fault → UsesTurns (Some words) rest fault
+    → words ≡ given → IsAmong answer_faults fault → UsesTurns (Some words) rest fault
     → WhereTold (Some words) (λ text. AreStopped kind file text rest old new fault)
     → LeavesWords From given old new fault
 words_stopped From kind file words given rest old new fault read stated same cause turns stops =
     inr (
-      query_of_answer fault cause,
+      among_more (opening ∷ refusal ∷ []) answer_faults fault cause,
       (
         rest,
         subst (λ text. UsesTurns (Some text) rest fault) same turns,
@@ -110,13 +111,13 @@ words_stopped From kind file words given rest old new fault read stated same cau
       ),
     )
 
--- .. and the input is left alone
+-- where the lines are words, the input is left alone
 pub beside_words : {A : Type 0} (input : Option (List ℕ)) (Left : Fault → Type 0)
     (r : Result A Fault) → IfErr r Left → IfErr r (λ fault. (input ≡ input) × Left fault)
 beside_words input Left (Ok x) left = tt
 beside_words input Left (Err e) left = (refl, left)
 
--- .. and over the built one
+-- a run over the built file stopped so
 pub built_stopped : {A : Type 0} (file given : List ℕ) (left old new : Option (List ℕ))
     (r : Result A Fault) → IsBuilt (usual_version 8) 8 file
     → IfErr r (λ fault. (new ≡ old) ⊎ AreStopped Database file given left old new fault)
@@ -140,7 +141,7 @@ part_kept f lines old mid new part kept =
       );
     }
 
--- .. so that the replies are a part of themselves
+-- a flush that failed leaves the replies, which are a part of themselves
 replies_part : (f : Book) (lines : List (List ℕ)) (old mid new : Option (List ℕ))
     → HasReplies f lines old mid → Keeps mid new → HasPart f lines old new
 replies_part f lines old mid new has kept =
@@ -150,7 +151,7 @@ replies_part f lines old mid new has kept =
       written = part_all old new now.text now.written;
     }
 
--- .. and those to the whole lines of what was read a part of all
+-- the replies to the whole lines of what was read are a part of all
 answered_part : (f : Book) (input : List ℕ) (left old mid new : Option (List ℕ))
     → HasAnswered f input left old mid → Keeps mid new
     → IsStoppedAt f (lines_of input) old new Write

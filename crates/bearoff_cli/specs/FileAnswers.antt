@@ -1,28 +1,22 @@
 -- What the program writes of a database or a board file, and for lines. Source: this project's
 -- profile.
-use Rattle.std.specs.Prelude.{◌≡◌, ℕ, zero, suc, Bool, true, false, List, [], ◌∷◌, ◌++◌, take, Option, None, Some}
-use Rattle.std.specs.Prelude.{codes, decimal}
+use Rattle.std.specs.Prelude.{◌≡◌, ℕ, zero, suc, Bool, true, false, List, [], ◌∷◌, ◌++◌, take, Option, None, Some, ◌≤◌}
+use Rattle.std.specs.Prelude.{◌⊎◌, ◌↔◌, ◌==◌, count_by, codes, decimal}
 use Rattle.std.specs.List.{IsAnyAnswer}
 use Rattle.std.specs.Io.KnownBytes.{Appends, IsAtEnd}
-use Rattle.race_model.specs.BuiltFile.{IsBuilt}
-use Rattle.race_model.specs.BoardFiles.{board_book}
-use Rattle.race_model.specs.InputLines.{lines_of}
-use Rattle.race_model.specs.Levels.{IsLevelLine, IsLevelLineIn}
-use Rattle.race_model.specs.Queries.{Query, Refusal, IsAccepted, IsRefused}
-use Rattle.race_model.specs.Ranks.{count_to}
-use Rattle.race_model.specs.Versions.{full}
-use Rattle.race_model.specs.Files.{version_of, bound_of}
-use Rattle.race_model.specs.RightFiles.{IsRightDatabase}
+use Rattle.race_model.specs.Prelude.{IsBuilt, lines_of, IsLevelLineIn, Query, Refusal, over_bound, IsAccepted}
+use Rattle.race_model.specs.Prelude.{IsRefused, count_to, full, version_of, bound_of}
 use Rattle.db_reader.specs.Telling.{WhereTold}
-use Rattle.certificate.specs.Upgrades.{WritesUpgrade}
 use Rattle.db_layout.specs.declared.stated.Kind.{Kind}
 use Rattle.db_layout.specs.declared.stated.Kind.TheVariants.{Database, Board}
 use Rattle.epc_query.specs.Runs.{HasReplies}
 use Rattle.retrograde.specs.UsualVersion.{usual_version}
 use Rattle.whole_file.specs.Disks.{Moment, Holds, Lastly}
 use Rattle.whole_file.specs.Paths.{Paths, LeadsTo, place_of}
-use Rattle.epc_query.specs.Kinds.{IsRightAs, book_as, version_as}
-use Rattle.bearoff_cli.specs.Kinds.{kind_as, stated_kind}
+use Rattle.epc_query.specs.Kinds.{IsRightAs, book_as, stated_kind, version_as}
+use Rattle.bearoff_cli.specs.Kinds.{kind_as}
+use Rattle.bearoff_cli.specs.declared.fault.Hint.{Hint}
+use Rattle.bearoff_cli.specs.declared.fault.Hint.TheVariants as hint
 use Rattle.bearoff_cli.specs.declared.act.Done.{Done}
 use Rattle.bearoff_cli.specs.declared.act.Done.TheVariants.{Built, Checked, Upgraded}
 
@@ -49,7 +43,8 @@ pub record AreAnswered (kind : Kind) (file given : List ℕ)
   pub end : IsAtEnd left
   pub replies : HasReplies (book_as kind file) (lines_of given) old new
 
--- .. and it is the database that the builder makes of a bound
+-- the input was read to its end, the file is the database that the builder makes of a bound, and
+-- the replies to the lines of the input were written, and nothing else
 pub record AreAnsweredOver (bound : ℕ) (given : List ℕ)
     (left old new : Option (List ℕ)) : Type 0 where
   pub file : List ℕ
@@ -69,11 +64,34 @@ abbrev pub IsAnsweredBy : ℕ → List ℕ → Bool → Type 0
 IsAnsweredBy bound line true = (q : Query) × IsAccepted bound line q
 IsAnsweredBy bound line false = (why : Refusal) × IsRefused bound line why
 
+-- whether a file of a bound refuses a line since its position is over the bound
+abbrev pub IsOverBy : ℕ → List ℕ → Bool → Type 0
+IsOverBy bound line true = IsRefused bound line over_bound
+IsOverBy bound line false = ((q : Query) × IsAccepted bound line q)
+    ⊎ ((why : Refusal) × IsRefused bound line why × ¬ (why ≡ over_bound))
+
+-- there are several lines, and no space
+abbrev pub AreWords : List ℕ → Type 0
+AreWords text = (2 ≤ count_by (λ c. c == 10) text) × (count_by (λ c. c == 32) text ≡ 0)
+
+-- the hint for lines of which a file of a bound answers none
+abbrev pub IsHintFor : ℕ → List ℕ → Hint → Type 0
+IsHintFor bound text hint.Board = IsAnyAnswer (IsOverBy bound) (lines_of text) true
+IsHintFor bound text hint.Position = ⊥
+IsHintFor bound text other = IsAnyAnswer (IsOverBy bound) (lines_of text) false
+    × ((other ≡ hint.Quotes) ↔ AreWords text)
+
+-- such a file answers some of the lines of a text, or there is this hint for them
+abbrev pub IsHinted : ℕ → List ℕ → Option Hint → Type 0
+IsHinted bound text None = IsAnyAnswer (IsAnsweredBy bound) (lines_of text) true
+IsHinted bound text (Some hint) =
+    IsAnyAnswer (IsAnsweredBy bound) (lines_of text) false × IsHintFor bound text hint
+
 -- the replies to lines that are words were written, of which some are answers, or each is a refusal
-abbrev pub AnswersWords : Bool → (List ℕ → Type 0) → List ℕ
+abbrev pub AnswersWords : Option Hint → (List ℕ → Type 0) → List ℕ
     → Option (List ℕ) → Option (List ℕ) → Type 0
-AnswersWords some From lines old new = (it : AreAnsweredFrom None From lines (Some []) old new)
-    × IsAnyAnswer (IsAnsweredBy (bound_of it.file)) (lines_of lines) some
+AnswersWords hint From lines old new = (it : AreAnsweredFrom None From lines (Some []) old new)
+    × IsHinted (bound_of it.file) lines hint
 
 -- the words for what was done
 abbrev pub count_text : Done → List ℕ
@@ -86,15 +104,19 @@ abbrev pub count_line : Done → ℕ → ℕ → List ℕ
 count_line done pips positions =
     count_text done ++ decimal pips ++ codes " positions " ++ decimal positions ++ codes "\n"
 
--- the line of an accepted file was written: an opened file of this kind is right, and has this
--- bound
-pub record SaysRight (kind : Option Kind) (From : List ℕ → Type 0)
-    (old new : Option (List ℕ)) : Type 0 where
+-- such a line of the bound of a file
+abbrev pub bound_line : Done → List ℕ → List ℕ
+bound_line done file = count_line done (bound_of file) (count_to (bound_of file))
+
+-- a text was written of a right file of this kind, which was read
+pub record Says (kind : Option Kind) (From : List ℕ → Type 0)
+    (IsText : List ℕ → List ℕ → Type 0) (old new : Option (List ℕ)) : Type 0 where
   pub file : List ℕ
   pub read : From file
   pub right : IsRightAs (kind_as kind file) file
-  pub written : Appends old new
-      (count_line Checked (bound_of file) (count_to (bound_of file)))
+  pub text : List ℕ
+  pub is : IsText file text
+  pub written : Appends old new text
 
 -- the words for a kind of file
 abbrev pub kind_text : Kind → List ℕ
@@ -107,35 +129,18 @@ about_text kind version pips positions =
     codes "kind " ++ kind_text kind ++ codes "\nversion " ++ decimal version ++ codes "\npips "
     ++ decimal pips ++ codes "\npositions " ++ decimal positions ++ codes "\n"
 
--- .. of the file that has these bytes, of the kind that its header states
+-- the lines of what the file is that has these bytes, of the kind that its header states
 abbrev pub about_file : List ℕ → List ℕ
 about_file f = about_text (stated_kind f) (version_as (stated_kind f) f) (bound_of f)
     (count_to (bound_of f))
 
--- what an accepted file is was written: an opened file of the kind that its header states is right,
--- and is this
-pub record SaysAbout (From : List ℕ → Type 0)
-    (old new : Option (List ℕ)) : Type 0 where
-  pub file : List ℕ
-  pub read : From file
-  pub right : IsRightAs (stated_kind file) file
-  pub written : Appends old new (about_file file)
-
--- the line of an upgraded database was written: an opened file is right and of version 1, and has
--- this bound, and its upgrade was handed to the writer of a file
-pub record SaysUpgraded {W : Type 0} (From : List ℕ → Type 0)
-    (contents : W → Option (List ℕ)) (old new : Option (List ℕ)) : Type 0 where
-  pub file : List ℕ
-  pub read : From file
-  pub right : IsRightDatabase file
-  pub version_is : version_of file ≡ full
-  pub handed : IsHandedTo contents (WritesUpgrade file)
-  pub written : Appends old new (count_line Upgraded (bound_of file) (count_to (bound_of file)))
+-- the text is the line of a database that was upgraded, and so is of version 1
+abbrev pub IsUpgradedLine : List ℕ → List ℕ → Type 0
+IsUpgradedLine file text = (version_of file ≡ full) × (text ≡ bound_line Upgraded file)
 
 -- the bytes are its line of a pip count, without the line feed
 abbrev pub IsLevelLineAs : Kind → List ℕ → ℕ → List ℕ → Type 0
-IsLevelLineAs Database f = IsLevelLine f
-IsLevelLineAs Board f = IsLevelLineIn (board_book f)
+IsLevelLineAs kind f = IsLevelLineIn (book_as kind f)
 
 -- the line of a pip count of a file was written
 pub record WritesLevel (kind : Kind) (file : List ℕ) (p : ℕ)
@@ -157,10 +162,6 @@ pub record WritesLevels (kind : Kind) (file : List ℕ) (count : ℕ)
   pub levels : AreLevelLines kind file count lines
   pub written : Appends old new lines
 
--- the lines of all pip counts of some opened file of this kind were written
-pub record SaysLevels (kind : Option Kind) (From : List ℕ → Type 0)
-    (old new : Option (List ℕ)) : Type 0 where
-  pub file : List ℕ
-  pub read : From file
-  pub right : IsRightAs (kind_as kind file) file
-  pub levels : WritesLevels (kind_as kind file) file (suc (bound_of file)) old new
+-- the text is the lines of all pip counts of a file of this kind
+abbrev pub AreAllLevels : Option Kind → List ℕ → List ℕ → Type 0
+AreAllLevels kind file = AreLevelLines (kind_as kind file) file (suc (bound_of file))

@@ -1,11 +1,9 @@
-pub mod Causes
 pub mod Faults
 pub mod FileAnswers
 pub mod Kinds
-pub mod Lines
 pub mod Meanings
 pub mod PutFiles
+pub mod Shows
 pub mod Requests
-pub mod StoppedRuns
 pub mod Tellings
 pub mod TypedLines

@@ -1,4 +1,4 @@
--- What the faults of a file mean, in words (this project's profile).
+-- What the faults of a file mean, in words.
 use Rattle.std.specs.Prelude.{ℕ, List, [], ◌∷◌, ◌++◌, ◌||◌, codes, map, if◌then◌else◌}
 use Rattle.std.specs.Char.{is_control}
 use Rattle.std.specs.Int.{is_in_range}
@@ -23,7 +23,7 @@ header_meaning BadRecordBytes = codes "states records of another length than its
 header_meaning BadReserved = codes "has a reserved byte in its header that is not 0"
 header_meaning BadLength = codes "is shorter or longer than its header and its records"
 
--- .. of a file
+-- what the first fault of a file means
 abbrev pub refusal_meaning : CheckFault → List ℕ
 refusal_meaning (Header fault) = header_meaning fault
 refusal_meaning (Play rank roll) = codes "records a play that the rules do not allow"

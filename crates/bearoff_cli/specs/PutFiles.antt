@@ -1,33 +1,29 @@
 -- What stands where a path leads once a command has written a file there, and what a command leaves
--- of the disk and of its input, however it ends. Source: this project's profile.
+-- of the disk and of its input, however it ends.
 use Rattle.std.specs.Prelude.{◌≡◌, ℕ, ◌<◌, ◌⊎◌, List, ◌∷◌, Option, Some, None, Result, IfErr}
 use Rattle.std.specs.String.{string_bytes}
-use Rattle.race_model.specs.Files.{version_of}
-use Rattle.race_model.specs.RightFiles.{IsRightDatabase}
-use Rattle.race_model.specs.Upgrades.{IsUpgrade}
-use Rattle.race_model.specs.Versions.{full}
-use Rattle.command_line.specs.Asked.{Asked, IsAskedBy, default, build, query, upgrade}
+use Rattle.race_model.specs.Prelude.{version_of, IsRightDatabase, IsUpgrade, full}
+use Rattle.command_line.specs.Asked.{Asked, IsAskedBy, default, build, query, show, upgrade}
 use Rattle.whole_file.specs.Disks.{Moment, Goes, Holds, Lastly}
 use Rattle.whole_file.specs.Drafts.{IsDraft, IsOldOrWhole, IsTidyBesides}
 use Rattle.whole_file.specs.Paths.{Paths, IsFixed, LeadsTo, place_of}
 use Rattle.whole_file.specs.Puts.{Puts}
 use Rattle.whole_file.specs.declared.draft.Names.{Names}
+use Rattle.bearoff_cli.specs.FileAnswers.{IsReadFrom}
 use Rattle.bearoff_cli.specs.Kinds.{IsBuiltOf}
-use Rattle.bearoff_cli.specs.Lines.{status_of}
+use Rattle.bearoff_cli.specs.Faults.{status_of}
 use Rattle.bearoff_cli.specs.declared.fault.Fault.{Fault}
-use Rattle.bearoff_cli.specs.declared.act.ProgramFault.{ProgramFault}
-use Rattle.bearoff_cli.specs.declared.act.ProgramFault.TheVariants.{Words, Failed, Explained}
 
--- the upgrade of a right database of version 1 was put where a path leads
-abbrev pub PutsUpgrade : Paths → List ℕ → Option (List Moment) → Option (List Moment) → Type 0
-PutsUpgrade paths path old new = (file : List ℕ) × IsRightDatabase file × (version_of file ≡ full)
-    × Puts paths path (IsUpgrade file) old new
-
--- what a request that was fulfilled has put where its path leads, where it writes a file
-abbrev pub PutsFor : Paths → Asked → Option (List Moment) → Option (List Moment) → Type 0
-PutsFor paths (build kind pips path) old new = Puts paths path (IsBuiltOf kind pips) old new
-PutsFor paths (upgrade before after) old new = PutsUpgrade paths after old new
-PutsFor paths _ old new = Unit {0}
+-- what a request that was fulfilled has put where its path leads, where it writes a file: the built
+-- file, or the upgrade of the file that was read, a right database of version 1
+abbrev pub PutsFor : {F : Type 0} → (F → Option (List ℕ)) → Paths → Asked → Option (List Moment)
+    → Option (List Moment) → Type 0
+PutsFor remaining paths (build kind pips path) old new =
+    Puts paths path (IsBuiltOf kind pips) old new
+PutsFor remaining paths (upgrade before after) old new = (file : List ℕ)
+    × IsReadFrom remaining paths old before file × IsRightDatabase file × (version_of file ≡ full)
+    × Puts paths after (IsUpgrade file) old new
+PutsFor remaining paths _ old new = Unit {0}
 
 -- at each moment a crash leaves at a path what it might have left at first, or a file of which this
 -- holds; and in the end there stands what stood there, or such a file
@@ -45,7 +41,7 @@ KeepsBehind paths path Whole old new = (first : Moment) (past : List Moment)
     → old ≡ Some (first ∷ past) → (to : List ℕ) → LeadsTo paths path to
     → ((new ≡ None) × IsFixed paths path) ⊎ IsKeptAt paths to Whole first past new
 
--- .. and all other places stay as they were
+-- a disk that tells its moments keeps all places but the one to which a path leads
 abbrev pub KeepsAll : Paths → List ℕ → (List ℕ → Type 0) → Option (List Moment)
     → Option (List Moment) → Type 0 → Type 0
 KeepsAll paths path Whole old new Kept =
@@ -62,39 +58,31 @@ IsEnded paths (Some names) contents old new = (bytes : List ℕ) (first : Moment
 
 -- what a request leaves of the disk, however it ends: all of it, where it writes no file, or
 -- upgrades none; else, where its path leads, the old file or the whole new one, and all others
-abbrev pub LeavesFor : Paths → Asked → Option (List Moment) → Option (List Moment) → Type 0
-    → Type 0
-LeavesFor paths (build kind pips path) old new Kept =
+abbrev pub LeavesFor : {F : Type 0} → (F → Option (List ℕ)) → Paths → Asked → Option (List Moment)
+    → Option (List Moment) → Type 0 → Type 0
+LeavesFor remaining paths (build kind pips path) old new Kept =
     KeepsAll paths path (IsBuiltOf kind pips) old new Kept
-LeavesFor paths (upgrade before after) old new Kept = (new ≡ old)
-    ⊎ ((file : List ℕ) × IsRightDatabase file × (version_of file ≡ full)
-    × KeepsAll paths after (IsUpgrade file) old new Kept)
-LeavesFor paths _ old new Kept = new ≡ old
+LeavesFor remaining paths (upgrade before after) old new Kept = (new ≡ old)
+    ⊎ ((file : List ℕ) × IsReadFrom remaining paths old before file × IsRightDatabase file
+    × (version_of file ≡ full) × KeepsAll paths after (IsUpgrade file) old new Kept)
+LeavesFor remaining paths _ old new Kept = new ≡ old
 
--- .. and of the input: all of it, where it answers no lines of it
+-- what a request leaves of the input, however it ends: all of it, where it answers no lines of it
 abbrev pub LeavesInput : Asked → Option (List ℕ) → Option (List ℕ) → Type 0
 LeavesInput default input left = Unit {0}
 LeavesInput (query kind path records) input left = Unit {0}
+LeavesInput (show texts) input left = Unit {0}
 LeavesInput _ input left = left ≡ input
 
 -- words that ask for nothing, or for help, leave both as they were
-abbrev pub LeavesBy : Paths → List (List ℕ) → Option (List Moment) → Option (List Moment)
-    → Type 0 → Option (List ℕ) → Option (List ℕ) → Type 0
-LeavesBy paths words old new Kept input left = ((new ≡ old) × (left ≡ input))
-    ⊎ ((asked : Asked) × IsAskedBy words asked × LeavesFor paths asked old new Kept
+abbrev pub LeavesBy : {F : Type 0} → (F → Option (List ℕ)) → Paths → List (List ℕ)
+    → Option (List Moment) → Option (List Moment) → Type 0 → Option (List ℕ) → Option (List ℕ)
+    → Type 0
+LeavesBy remaining paths words old new Kept input left = ((new ≡ old) × (left ≡ input))
+    ⊎ ((asked : Asked) × IsAskedBy words asked × LeavesFor remaining paths asked old new Kept
     × LeavesInput asked input left)
 
 -- the output, or the disk, is as it was where the program ends with the status of a bound that is
 -- too large, or of a refused database
 abbrev pub KeepsIfRefused : {T X : Type 0} → Result T Fault → X → X → Type 0
 KeepsIfRefused result old new = IfErr result (λ fault. 1 < status_of fault → new ≡ old)
-
--- .. and where the words are wrong
-abbrev pub KeepsAt : {X : Type 0} → X → X → ProgramFault → Type 0
-KeepsAt old new (Words error) = new ≡ old
-KeepsAt old new (Failed fault) = 1 < status_of fault → new ≡ old
-KeepsAt old new (Explained it) = 1 < status_of it.fault → new ≡ old
-
--- where the result is a refusal, it is as `KeepsAt` says
-abbrev pub KeepsIfTold : {T X : Type 0} → Result T ProgramFault → X → X → Type 0
-KeepsIfTold result old new = IfErr result (KeepsAt old new)

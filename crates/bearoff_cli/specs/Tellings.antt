@@ -1,9 +1,9 @@
--- What the program tells of its end. Source: this project's profile.
+-- What the program tells of its end.
 use Rattle.std.specs.Prelude.{◌≡◌, ◌⊎◌, ℕ, List, [], ◌∷◌, ◌++◌, Option, Some, None, Result, OnOk, codes}
 use Rattle.std.specs.Io.KnownBytes.{Appends}
 use Rattle.db_layout.specs.Writes.{AppendsPart}
 use Rattle.command_line.specs.Asked.{Asked, about}
-use Rattle.bearoff_cli.specs.Lines.{error_line, status_of}
+use Rattle.bearoff_cli.specs.Faults.{error_line, status_of}
 use Rattle.bearoff_cli.specs.Meanings.{meaning_line, shown}
 use Rattle.bearoff_cli.specs.declared.fault.Fault.{Fault}
 use Rattle.bearoff_cli.specs.declared.fault.Fault.TheVariants.{Open, File, Refused}
@@ -15,8 +15,8 @@ abbrev pub IsReasonOf : {E : Type 0} → Option E → List ℕ → Type 0
 IsReasonOf None text = text ≡ []
 IsReasonOf (Some error) text = Unit {0}
 
--- a refusal has this status, and of what is told of it this holds; the text for wrong words is left
--- to `clap`
+-- a refusal has this status, and of what is told of it this holds; of the text for wrong words
+-- nothing is said
 abbrev pub IsToldBy : ProgramFault → ℕ → (List ℕ → Type 0) → Type 0
 IsToldBy (Words error) status Holds = status ≡ 2
 IsToldBy (Failed fault) status Holds = (status ≡ status_of fault) × Holds (error_line fault)
@@ -45,6 +45,11 @@ Tells _ fault text = text ≡ error_line fault
 abbrev pub MayTell : List (List ℕ) → Fault → List ℕ → Type 0
 MayTell words fault text = (text ≡ error_line fault) ⊎ ((rest : List (List ℕ)) × (more : List ℕ)
     × (words ≡ codes "about" ∷ rest) × (text ≡ error_line fault ++ more))
+
+-- a text that may report a fault of this status was written, of which `Line` holds
+abbrev pub IsReported : List (List ℕ) → (List ℕ → Type 0) → ℕ → Type 0
+IsReported words Line status = (fault : Fault) × (text : List ℕ)
+    × ((status ≡ status_of fault) × MayTell words fault text × Line text)
 
 -- a refusal is explained only where `about` is the first word
 abbrev pub IsExplainedFor : List (List ℕ) → ProgramFault → Type 0

@@ -1,4 +1,4 @@
--- What a prompt hands on of an input. Source: this project's profile.
+-- What a prompt hands on of an input.
 use Rattle.std.specs.Prelude.{◌≡◌, ◌⊎◌, ◌||◌, Bool, true, ℕ, zero, suc, List, [], ◌++◌, Option, Some, None, codes}
 use Rattle.std.specs.Str.{bytes_eq}
 use Rattle.std.specs.Io.KnownBytes.{Consumes}
@@ -23,7 +23,8 @@ abbrev pub HandsOn : Option (List ℕ) → Option (List ℕ) → List ℕ → Ty
 HandsOn old new given = (n : ℕ) × (helps : List ℕ) × AreHelps n helps
     × Consumes old new (helps ++ given)
 
--- .. and these were handed on, or none of a line that is `quit`
+-- such lines were answered by a help, and these bytes were handed on, or none of a line that is
+-- `quit`
 abbrev pub IsTyped : Option (List ℕ) → Option (List ℕ) → List ℕ → Type 0
 IsTyped old new given =
     HandsOn old new given ⊎ ((given ≡ []) × HandsOn old new (codes "quit\n"))

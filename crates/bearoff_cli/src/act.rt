@@ -1,79 +1,57 @@
 //! The whole program, over the files of a system, a reader and two writers.
-ghost use Rattle.std.specs.Prelude.{◌≡◌, ℕ, ◌<◌, ◌≤◌, ◌⊎◌, List, ◌++◌, map, Option, Some, None, Ok, Err, IfOk};
-ghost use Rattle.std.specs.Prelude.{IfErr, OnOk, OnErr, true};
-ghost use Rattle.std.specs.Io.KnownBytes.{Appends};
-ghost use Rattle.race_model.specs.BuiltFile.{IsBuilt};
+ghost use Rattle.std.specs.Prelude.{◌≡◌, ℕ, ◌<◌, ◌⊎◌, List, ◌++◌, map, Option, Some, None, Ok, Err, IfOk, IfErr, OnOk};
+ghost use Rattle.race_model.specs.Prelude.{IsBuilt, count_to};
+ghost use Rattle.db_layout.specs.declared.stated.Kind.{Kind};
 ghost use Rattle.db_layout.specs.declared.stated.Kind.TheVariants.{Database};
-ghost use Rattle.race_model.specs.Ranks.{count_to};
 ghost use Rattle.db_reader.specs.Telling.{WhereTold};
 ghost use Rattle.db_layout.specs.Writes.{AppendsPart};
-ghost use Rattle.bearoff_cli.specs.Causes.{of_check};
-ghost use Rattle.bearoff_cli.specs.Lines.{error_line, status_of};
+ghost use Rattle.bearoff_cli.specs.Faults.{of_check, error_line, IsAmong, IsFaultAsked, IsFaultIn, UsesTurns};
+ghost use Rattle.bearoff_cli.specs.Faults.{answer_faults, check_faults, query_faults};
 ghost use Rattle.bearoff_cli.specs.Meanings.{meaning_line, shown};
-ghost use Rattle.bearoff_cli.specs.declared.fault.Fault.{Fault};
-ghost use Rattle.bearoff_cli.specs.declared.fault.Fault.TheVariants.{OverBound, Write};
-ghost use Rattle.command_line.specs.Asked.{Asked, Asks, IsAskedBy, asked_by, build, upgrade};
+ghost use Rattle.command_line.specs.Asked.{Asked, Asks, IsAskedBy, about, ask, asked_by, build, query, upgrade};
 ghost use Rattle.certificate.specs.CheckFaults.{IsFirst};
-ghost use Rattle.certificate.specs.declared.check_fault.CheckFault.{CheckFault};
-ghost use Rattle.bearoff_cli.specs.Tellings.{IsExplainedFor, IsReasonOf, IsToldBy, IsWritten, MayTell};
-ghost use Rattle.bearoff_cli.specs.Faults.{UsesTurns, IsAnswerFault, IsAskFault, IsBoundFault, IsCheckFault, IsFaultIn};
-ghost use Rattle.bearoff_cli.specs.Faults.{IsOwnFault, IsQueryFault, IsUpgradeFault};
-ghost use Rattle.bearoff_cli.specs.FileAnswers.{AnswersWords, AreAnswered, AreAnsweredOver, AreAnsweredFrom};
-ghost use Rattle.bearoff_cli.specs.FileAnswers.{IsHandedTo, IsReadFrom, SaysAbout, SaysRight, SaysUpgraded, SaysLevels};
-ghost use Rattle.bearoff_cli.specs.FileAnswers.{about_text, count_line};
-ghost use Rattle.whole_file.specs.Paths.{untold_paths};
-ghost use Rattle.whole_file.specs.Puts.{Puts};
-ghost use Rattle.bearoff_cli.specs.PutFiles.{LeavesBy, LeavesFor, LeavesInput, PutsFor};
-ghost use Rattle.bearoff_cli.specs.PutFiles.{PutsUpgrade, KeepsIfRefused, KeepsIfTold};
+ghost use Rattle.bearoff_cli.specs.Tellings.{IsReasonOf, IsReported, IsToldBy, IsWritten};
+ghost use Rattle.bearoff_cli.specs.FileAnswers.{AreAnswered, AreAnsweredOver, about_text, count_line};
+ghost use Rattle.bearoff_cli.specs.PutFiles.{KeepsIfRefused, LeavesBy, LeavesFor, LeavesInput, PutsFor};
 ghost use Rattle.retrograde.specs.UsualVersion.{usual_version};
 ghost use Rattle.epc_query.specs.Kinds.{IsRightAs};
-ghost use Rattle.bearoff_cli.specs.Kinds.{IsBuiltOf, WritesBuiltOf, greatest};
-ghost use Rattle.bearoff_cli.specs.Requests.{EndsAs, EndsBy, IsDone};
-ghost use Rattle.bearoff_cli.specs.StoppedRuns.{AreStopped, IsAboutEnd, IsNothingOr, IsRefusalOf, IsUnreadEnd};
-ghost use Rattle.bearoff_cli.specs.StoppedRuns.{LeavesLevels, LeavesLine, LeavesReplies, LeavesWords, SaysUpgradedPart};
-ghost use Rattle.bearoff_cli.specs.declared.act.Done.TheVariants.{Built};
-ghost use Rattle.bearoff_cli.specs.declared.act.ProgramFault.TheVariants.{Failed};
-ghost use Rattle.bearoff_cli.specs.declared.act.Report.TheVariants.{Count, Levels};
+ghost use Rattle.bearoff_cli.specs.Kinds.{greatest, taken_as};
+ghost use Rattle.bearoff_cli.specs.Requests.{Ends, EndsAny, EndsBy, as_failed, report_of, AreStopped, IsUnreadEnd};
+ghost use Rattle.bearoff_cli.specs.Requests.{unobserved, world};
 
 use crate::fault::{Fault, write_fault};
 use crate::files::{
-    Unread, affordable, build_file, flush, probe_stack, read_file, stack_room, upgrade_file,
-    write_flushed,
+    Unread, affordable, build_file, built_file, read_file, stack_room, upgrade_file, write_flushed,
 };
 use crate::kinds::{
-    TURNS, accept, answer, greatest, handed_on, has_answer, stated_kind, write_levels,
+    TURNS, accept_asked, answer, greatest, handed_on, hint, taken_kind, write_levels,
 };
 use crate::meaning::{Reason, shown, write_meaning};
+use crate::show::show;
 use arrayvec::ArrayString;
 use certificate::{CheckFault, Checked, check};
-use clap::Error;
-use clap::error::ErrorKind;
-use command_line::{Request, read_words};
-use db_layout::{COMPACT_VERSION, Kind, WriteFault};
+use command_line::{Request, WordsError, read_words};
+use db_layout::{COMPACT_VERSION, Kind, WriteFault, write_bytes};
 use db_reader::{FileSource, Paged, Table, Whole};
-use epc_query::run;
+use epc_query::{accept_stated, run, stated_kind};
 use itoa::Buffer;
+use race_summary::Form;
 use ranking::Ranks;
-use retrograde::build;
 use std::alloc::{AllocError, Global};
 use std::convert::AsStr;
 use std::fmt::Write as _;
 use std::io;
-use std::io::{BufWriter, Read, Write};
+use std::io::{Read, Write};
 use std::rt::Files;
 use whole_file::{Disk, SystemDisk, SystemFile};
 
 /// The pip bound of the database that is built where no word is given.
 const DEFAULT_BOUND: u8 = 8;
 
-/// The whole program: does what the words (those after the program's own name) ask for, and gives
-/// the exit status. With no words, or `--` alone, it answers each line of the input over the
-/// database of 8 pips, which it builds. 0: done; 1: a file, the input, an output or memory failed,
-/// or no line of `ask` was answered; 2: the words are wrong, or the bound is over the greatest one;
-/// 3: the database was refused, or is to be upgraded and is no old one. At 1 and 3, and for a bound
-/// over the greatest one, one line is written to `errors`, and for `about` one more where its file
-/// failed; for words that are wrong it is the text of `clap`. At 2 and 3 nothing was written to
-/// `output`. (The words, the statuses and the lines are this project's profile.)
+/// The whole program: does what the arguments ask for, and returns the exit status: 0 success; 1 an
+/// I/O error, out of memory, or no query answered; 2 invalid arguments or too large a bound; 3 a
+/// file that failed verification, or is no old one. A fault writes a line to `errors`, for `about`
+/// two, and invalid arguments write what is wrong. At 2 and 3 nothing is written to `output`.
 pub fn act<R: Files, S: AsStr, I: Read, O: Write, E: Write>(
     rt: &R,
     alloc: Global,
@@ -85,15 +63,14 @@ pub fn act<R: Files, S: AsStr, I: Read, O: Write, E: Write>(
 where
     R::File: SystemFile,
     ensures silent { result ≡ 0 → E.contents errors.new ≡ E.contents errors.old }
-    ensures told { 0 < result → ¬ (result ≡ 2) → (fault : Fault) × (text : List ℕ)
-        × ((result ≡ status_of fault) × MayTell (map S.text words.entry.now) fault text
-        × AppendsPart (E.contents errors.old) (E.contents errors.new) text) }
+    ensures told { 0 < result → ¬ (result ≡ 2) → IsReported (map S.text words.entry.now)
+        (AppendsPart (E.contents errors.old) (E.contents errors.new)) result }
     ensures refused { 1 < result → O.contents output.new ≡ O.contents output.old }
     ensures ends { (asked : Asked) → Asks (map S.text words.entry.now) asked
-        → EndsBy R.File.remaining ⟦<BufWriter<R::File> as Write>⟧.contents untold_paths None
-        (AppendsPart (E.contents errors.old) (E.contents errors.new))
-        (I.remaining input.old) (I.remaining input.new)
-        (O.contents output.old) (O.contents output.new) result asked }
+        → EndsBy R.File.remaining R.File.contents
+        (AppendsPart (E.contents errors.old) (E.contents errors.new)) result asked
+        (unobserved (I.remaining input.old) (O.contents output.old))
+        (unobserved (I.remaining input.new) (O.contents output.new)) }
     ensures other { (I.remaining input.new ≡ I.remaining input.old)
         ⊎ ((asked : Asked) × IsAskedBy (map S.text words.entry.now) asked
         × LeavesInput asked (I.remaining input.old) (I.remaining input.new)) }
@@ -109,11 +86,8 @@ where
     told.status
 }
 
-/// The same over any disk: [`act`] is that over the system's, which tells nothing of what it has.
-/// Where a disk tells its moments, at 0 a file that was to be written stands there as a whole; at
-/// any status there stands the old file or the whole new one, also after a crash; and a command
-/// that writes no file, wrong words, and a refusal leave all of the disk as it was. It tells, too,
-/// whether the line was written: where no write failed, all of it was.
+/// The same over any disk; [`act`] is that over the system's. On a disk that reports its moments,
+/// the file to write is complete at 0, and at any status the old file or the whole new one.
 pub fn act_on<D: Disk, S: AsStr, I: Read, O: Write, E: Write>(
     disk: &mut D,
     alloc: Global,
@@ -123,25 +97,23 @@ pub fn act_on<D: Disk, S: AsStr, I: Read, O: Write, E: Write>(
     errors: &mut E,
 ) -> Told
     ensures silent { result.status ≡ 0 → E.contents errors.new ≡ E.contents errors.old }
-    ensures told { 0 < result.status → ¬ (result.status ≡ 2) → (fault : Fault)
-        × (text : List ℕ) × ((result.status ≡ status_of fault)
-        × MayTell (map S.text words.entry.now) fault text × IsWritten result.line
-        (E.contents errors.old) (E.contents errors.new) text) }
+    ensures told { 0 < result.status → ¬ (result.status ≡ 2)
+        → IsReported (map S.text words.entry.now)
+        (IsWritten result.line (E.contents errors.old) (E.contents errors.new)) result.status }
     ensures refused { 1 < result.status → O.contents output.new ≡ O.contents output.old }
     ensures ends { (asked : Asked) → Asks (map S.text words.entry.now) asked
-        → EndsBy D.Reader.remaining ⟦<BufWriter<D::File> as Write>⟧.contents
-        (D.paths disk.old) (D.told disk.old)
-        (IsWritten result.line (E.contents errors.old) (E.contents errors.new))
-        (I.remaining input.old) (I.remaining input.new)
-        (O.contents output.old) (O.contents output.new) result.status asked }
+        → EndsBy D.Reader.remaining D.File.contents
+        (IsWritten result.line (E.contents errors.old) (E.contents errors.new)) result.status asked
+        (world ⟦<D as Disk>⟧ disk.old (I.remaining input.old) (O.contents output.old))
+        (world ⟦<D as Disk>⟧ disk.new (I.remaining input.new) (O.contents output.new)) }
     ensures put { (asked : Asked) → Asks (map S.text words.entry.now) asked
-        → result.status ≡ 0
-        → PutsFor (D.paths disk.old) asked (D.told disk.old) (D.told disk.new) }
+        → result.status ≡ 0 → PutsFor D.Reader.remaining (D.paths disk.old) asked
+        (D.told disk.old) (D.told disk.new) }
     ensures stays { 1 < result.status → D.told disk.new ≡ D.told disk.old }
     ensures leaves { (asked : Asked) → Asks (map S.text words.entry.now) asked
-        → LeavesFor (D.paths disk.old) asked (D.told disk.old) (D.told disk.new)
-        (D.kept disk.new) }
-    ensures other { LeavesBy (D.paths disk.old) (map S.text words.entry.now)
+        → LeavesFor D.Reader.remaining (D.paths disk.old) asked (D.told disk.old)
+        (D.told disk.new) (D.kept disk.new) }
+    ensures other { LeavesBy D.Reader.remaining (D.paths disk.old) (map S.text words.entry.now)
         (D.told disk.old) (D.told disk.new) (D.kept disk.new)
         (I.remaining input.old) (I.remaining input.new) }
 {
@@ -158,8 +130,7 @@ pub struct Told {
     pub line: Result<(), WriteFault>,
 }
 
-/// Tells the end of the program: nothing where it did what was asked for, and else why it didn't,
-/// by a line, by a second one where it is explained, or, of wrong words, by the text of `clap`.
+/// Writes why the program ends: nothing at 0, else a line or two, or what is wrong with the words.
 fn tell<E: Write>(alloc: Global, ended: Result<(), ProgramFault<'_>>, errors: &mut E) -> Told
     ensures silent { OnOk ended.entry
         ((result.status ≡ 0) × (E.contents errors.new ≡ E.contents errors.old)) }
@@ -171,13 +142,10 @@ fn tell<E: Write>(alloc: Global, ended: Result<(), ProgramFault<'_>>, errors: &m
             status: 0,
             line: Ok(()),
         },
-        Err(ProgramFault::Words(error)) => {
-            let written = write!(errors, "{error}");
-            Told {
-                status: 2,
-                line: written.map_err(|_| WriteFault),
-            }
-        }
+        Err(ProgramFault::Words(text)) => Told {
+            status: 2,
+            line: write_bytes(text.as_bytes(), errors),
+        },
         Err(ProgramFault::Failed(fault)) => Told {
             status: fault.status(),
             line: write_fault(&fault, errors),
@@ -189,8 +157,7 @@ fn tell<E: Write>(alloc: Global, ended: Result<(), ProgramFault<'_>>, errors: &m
     }
 }
 
-/// Writes the line of a fault of a file, and behind it, where there is memory for the path, a line
-/// of what it means.
+/// Writes the line of a file's fault, and after it, where memory suffices, a line of its meaning.
 fn write_explained<E: Write>(
     alloc: Global,
     explained: &FileFault<'_>,
@@ -223,8 +190,8 @@ fn reason_text(reason: &Option<io::Error>) -> Reason
 /// Why the program ends with another status than 0.
 #[derive(Drop)]
 enum ProgramFault<'a> {
-    /// The words are wrong.
-    Words(Error),
+    /// The words are wrong, as this text says.
+    Words(String),
 
     /// What they ask for failed.
     Failed(Fault),
@@ -236,10 +203,8 @@ enum ProgramFault<'a> {
 /// A fault of a file, with what is told beside its line.
 #[derive(Drop)]
 struct FileFault<'a> {
-    /// The fault.
     fault: Fault,
 
-    /// The path of the file.
     path: &'a str,
 
     /// What the system says of it, where it failed there.
@@ -254,64 +219,45 @@ fn perform<'a, D: Disk, S: AsStr, I: Read, O: Write>(
     input: &mut I,
     output: &mut O,
 ) -> Result<(), ProgramFault<'a>>
-    ensures refused { KeepsIfTold result (O.contents output.old) (O.contents output.new) }
     ensures ends { (asked : Asked) → Asks (map S.text words.entry.now) asked
-        → EndsAs D.Reader.remaining ⟦<BufWriter<D::File> as Write>⟧.contents
-        (D.paths disk.old) (D.told disk.old) (D.told disk.new) (D.kept disk.new)
-        (I.remaining input.old) (I.remaining input.new)
-        (O.contents output.old) (O.contents output.new) result asked }
-    ensures explained { IfErr result (IsExplainedFor (map S.text words.entry.now)) }
-    ensures stays { KeepsIfTold result (D.told disk.old) (D.told disk.new) }
-    ensures other { LeavesBy (D.paths disk.old) (map S.text words.entry.now)
-        (D.told disk.old) (D.told disk.new) (D.kept disk.new)
-        (I.remaining input.old) (I.remaining input.new) }
+        → Ends D.Reader.remaining D.File.contents asked
+        (world ⟦<D as Disk>⟧ disk.old (I.remaining input.old) (O.contents output.old))
+        (world ⟦<D as Disk>⟧ disk.new (I.remaining input.new) (O.contents output.new)) result }
+    ensures any { EndsAny D.Reader.remaining (map S.text words.entry.now)
+        (world ⟦<D as Disk>⟧ disk.old (I.remaining input.old) (O.contents output.old))
+        (world ⟦<D as Disk>⟧ disk.new (I.remaining input.new) (O.contents output.new)) result }
 {
     match read_words(alloc, words) {
         Ok(request) => fulfil(disk, alloc, request, input, output),
-        Err(error) if error.kind() == ErrorKind::OutOfMemory => {
-            Err(ProgramFault::Failed(Fault::Memory))
-        }
-        Err(error) if error.use_stderr() => match told_of_shown(alloc, words, error) {
-            Ok(error) => Err(ProgramFault::Words(error)),
+        Err(WordsError::OutOfMemory) => Err(ProgramFault::Failed(Fault::Memory)),
+        Err(WordsError::Help(text)) => refused(write_flushed(text.as_bytes(), output)),
+        Err(WordsError::Mistake(text)) => match text_of_shown(alloc, words, text) {
+            Ok(text) => Err(ProgramFault::Words(text)),
             Err(_) => Err(ProgramFault::Failed(Fault::Memory)),
         },
-        Err(error) => refused(write_help(&error, output)),
     }
 }
 
-/// A mistake in words, as it is told of what a terminal prints of them.
-fn told_of_shown<S: AsStr>(alloc: Global, words: &[S], error: Error) -> Result<Error, AllocError> {
+/// The text about wrong words, as it is told of what a terminal prints of them.
+fn text_of_shown<S: AsStr>(alloc: Global, words: &[S], text: String) -> Result<String, AllocError> {
     let mut printed = Vec::new(alloc);
     for word in words {
         printed.push(shown(alloc, word.as_str())?)?;
     }
     match read_words(alloc, printed.as_slice()) {
-        Err(told) => match told.kind() {
-            ErrorKind::OutOfMemory => Err(AllocError),
-            _ => Ok(told),
-        },
-        Ok(_request) => Ok(error),
+        Ok(_request) => Ok(text),
+        Err(WordsError::OutOfMemory) => Err(AllocError),
+        Err(WordsError::Help(told) | WordsError::Mistake(told)) => Ok(told),
     }
 }
 
 /// A fault as a refusal.
 fn refused<'a>(ended: Result<(), Fault>) -> Result<(), ProgramFault<'a>>
-    ensures done { IfOk ended (λ done. result ≡ Ok done) }
-    ensures fault { IfErr ended (λ fault. result ≡ Err (Failed fault)) }
+    ensures { result ≡ as_failed ended }
 {
     match ended {
         Ok(()) => Ok(()),
         Err(fault) => Err(ProgramFault::Failed(fault)),
-    }
-}
-
-/// Writes a help text or the version.
-fn write_help<O: Write>(error: &Error, output: &mut O) -> Result<(), Fault>
-    ensures { IfErr result (λ fault. status_of fault ≡ 1) }
-{
-    match write!(output, "{error}") {
-        Ok(()) => flush(output),
-        Err(_) => Err(Fault::Write),
     }
 }
 
@@ -323,22 +269,9 @@ fn fulfil<'a, D: Disk, I: Read, O: Write>(
     input: &mut I,
     output: &mut O,
 ) -> Result<(), ProgramFault<'a>>
-    ensures refused { KeepsIfTold result (O.contents output.old) (O.contents output.new) }
-    ensures fault { IfErr result (IsRefusalOf (IsReadFrom D.Reader.remaining
-        (D.paths disk.old) (D.told disk.old)) (asked_by request.entry)
-        (I.remaining input.old) (I.remaining input.new)
-        (O.contents output.old) (O.contents output.new)) }
-    ensures done { OnOk result (IsDone (IsReadFrom D.Reader.remaining
-        (D.paths disk.old) (D.told disk.old))
-        ⟦<BufWriter<D::File> as Write>⟧.contents (asked_by request.entry) (I.remaining input.old)
-        (I.remaining input.new) (O.contents output.old) (O.contents output.new)) }
-    ensures put { OnOk result (PutsFor (D.paths disk.old) (asked_by request.entry)
-        (D.told disk.old) (D.told disk.new)) }
-    ensures stays { KeepsIfTold result (D.told disk.old) (D.told disk.new) }
-    ensures leaves { LeavesFor (D.paths disk.old) (asked_by request.entry)
-        (D.told disk.old) (D.told disk.new) (D.kept disk.new) }
-    ensures unread { LeavesInput (asked_by request.entry)
-        (I.remaining input.old) (I.remaining input.new) }
+    ensures { Ends D.Reader.remaining D.File.contents (asked_by request.entry)
+        (world ⟦<D as Disk>⟧ disk.old (I.remaining input.old) (O.contents output.old))
+        (world ⟦<D as Disk>⟧ disk.new (I.remaining input.new) (O.contents output.new)) result }
 {
     match request {
         Request::Default => refused(answer_default(alloc, input, output)),
@@ -361,6 +294,10 @@ fn fulfil<'a, D: Disk, I: Read, O: Write>(
         Request::Ask { path, lines } => {
             refused(answer_words(disk, alloc, path, lines.as_str(), output))
         }
+        Request::Show { words, is_json } => {
+            let form = if is_json { Form::Json } else { Form::Plain };
+            refused(show(disk, alloc, words.as_str(), form, input, output))
+        }
         Request::About { path } => about_file(disk, alloc, path, output),
         Request::Audit { kind, path } => {
             refused(report_file(disk, alloc, kind, path, Report::Levels, output))
@@ -376,7 +313,7 @@ fn answer_default<I: Read, O: Write>(
     input: &mut I,
     output: &mut O,
 ) -> Result<(), Fault>
-    ensures cause { IfErr result IsAnswerFault }
+    ensures cause { IfErr result (IsAmong answer_faults) }
     ensures turns { IfErr result (UsesTurns (I.remaining input.old) (I.remaining input.new)) }
     ensures left { WhereTold (I.remaining input.old) (λ given. IfErr result
         (λ fault. (O.contents output.new ≡ O.contents output.old)
@@ -387,10 +324,8 @@ fn answer_default<I: Read, O: Write>(
         (λ given. IfOk result (λ _. AreAnsweredOver 8 given (I.remaining input.new)
         (O.contents output.old) (O.contents output.new))) }
 {
-    probe_stack(alloc)?;
-    let mut bytes = Vec::new(alloc);
-    build(alloc, DEFAULT_BOUND, &mut bytes)?;
-    answer_bytes(alloc, Kind::Database, bytes.as_slice(), input, output)
+    let file = built_file(alloc, Kind::Database, DEFAULT_BOUND)?;
+    answer_asked(alloc, Kind::Database, file.as_slice(), input, output)
 }
 
 /// Answers each line of the input over a file of a kind, which is read whole.
@@ -403,27 +338,16 @@ fn answer_file<D: Disk, I: Read, O: Write>(
     input: &mut I,
     output: &mut O,
 ) -> Result<(), Fault>
-    ensures refused { KeepsIfRefused result (O.contents output.old) (O.contents output.new) }
-    ensures cause { IfErr result IsQueryFault }
-    ensures turns { IfErr result (UsesTurns (I.remaining input.old) (I.remaining input.new)) }
-    ensures fault { IfErr result (λ fault. IsOwnFault (Some kind) (IsReadFrom D.Reader.remaining
-        (D.paths disk.old) (D.told disk.old) path.now) fault) }
-    ensures left { IfErr result (LeavesReplies (Some kind) (IsReadFrom D.Reader.remaining
-        (D.paths disk.old) (D.told disk.old) path.now)
-        (I.remaining input.old) (I.remaining input.new)
-        (O.contents output.old) (O.contents output.new)) }
-    ensures answers { OnOk result (WhereTold (I.remaining input.old) (λ given.
-        AreAnsweredFrom (Some kind) (IsReadFrom D.Reader.remaining
-        (D.paths disk.old) (D.told disk.old) path.now) given (I.remaining input.new)
-        (O.contents output.old) (O.contents output.new))) }
-    ensures stays { D.told disk.new ≡ D.told disk.old }
+    ensures { Ends D.Reader.remaining D.File.contents (query kind path.now None)
+        (world ⟦<D as Disk>⟧ disk.old (I.remaining input.old) (O.contents output.old))
+        (world ⟦<D as Disk>⟧ disk.new (I.remaining input.new) (O.contents output.new))
+        (as_failed result) }
 {
     let file = read_file(disk, alloc, path)?;
-    answer_bytes(alloc, kind, file.as_slice(), input, output)
+    answer_asked(alloc, kind, file.as_slice(), input, output)
 }
 
-/// Answers each line of a text over a file, which is read whole, of the kind that its header
-/// states: `Unanswered` where each reply is a refusal.
+/// Answers each line of a text over a file of any kind: `Unanswered` where all are refused.
 #[inline(never)]
 fn answer_words<D: Disk, O: Write>(
     disk: &mut D,
@@ -432,33 +356,23 @@ fn answer_words<D: Disk, O: Write>(
     lines: &str,
     output: &mut O,
 ) -> Result<(), Fault>
-    ensures refused { KeepsIfRefused result (O.contents output.old) (O.contents output.new) }
-    ensures cause { IfErr result IsAskFault }
-    ensures fault { IfErr result (IsOwnFault None (IsReadFrom D.Reader.remaining
-        (D.paths disk.old) (D.told disk.old) path.now)) }
-    ensures left { IfErr result (LeavesWords (IsReadFrom D.Reader.remaining
-        (D.paths disk.old) (D.told disk.old) path.now) lines.now
-        (O.contents output.old) (O.contents output.new)) }
-    ensures answers { OnOk result (AnswersWords true (IsReadFrom D.Reader.remaining
-        (D.paths disk.old) (D.told disk.old) path.now) lines.now
-        (O.contents output.old) (O.contents output.new)) }
-    ensures stays { D.told disk.new ≡ D.told disk.old }
+    ensures { (input : Option (List ℕ)) → Ends D.Reader.remaining D.File.contents
+        (ask path.now lines.now) (world ⟦<D as Disk>⟧ disk.old input (O.contents output.old))
+        (world ⟦<D as Disk>⟧ disk.new input (O.contents output.new)) (as_failed result) }
 {
     let file = read_file(disk, alloc, path)?;
     let bytes = file.as_slice();
     let kind = stated_kind(bytes);
-    let kept = accept(kind, bytes)?;
+    let kept = accept_stated(bytes)?;
     let mut words = lines.as_bytes();
     answer(kind, kept, alloc, bytes, &mut words, output)?;
-    if has_answer(kept.bound, lines) {
-        Ok(())
-    } else {
-        Err(Fault::Unanswered)
+    match hint(kept.bound, lines) {
+        Some(hint) => Err(Fault::Unanswered(hint)),
+        None => Ok(()),
     }
 }
 
-/// Answers each line of the input over the database in a file, of which at most so many records
-/// are in memory.
+/// Answers each line of the input over a database file, with at most so many records in memory.
 fn answer_pages<D: Disk, I: Read, O: Write>(
     disk: &mut D,
     alloc: Global,
@@ -467,10 +381,11 @@ fn answer_pages<D: Disk, I: Read, O: Write>(
     input: &mut I,
     output: &mut O,
 ) -> Result<(), Fault>
-    ensures refused { KeepsIfRefused result (O.contents output.old) (O.contents output.new) }
-    ensures cause { IfErr result IsQueryFault }
-    ensures turns { IfErr result (UsesTurns (I.remaining input.old) (I.remaining input.new)) }
-    ensures stays { D.told disk.new ≡ D.told disk.old }
+    ensures { (kind : Kind) → Ends D.Reader.remaining D.File.contents
+        (query kind path.now (Some records))
+        (world ⟦<D as Disk>⟧ disk.old (I.remaining input.old) (O.contents output.old))
+        (world ⟦<D as Disk>⟧ disk.new (I.remaining input.new) (O.contents output.new))
+        (as_failed result) }
 {
     let room = stack_room(alloc)?;
     let Ok(file) = disk.open_to_read(path) else {
@@ -485,8 +400,8 @@ fn answer_pages<D: Disk, I: Read, O: Write>(
     }
 }
 
-/// Answers each line of the input over the file in bytes.
-fn answer_bytes<I: Read, O: Write>(
+/// Answers each line of the input over the file in bytes, of the kind as which it is taken.
+fn answer_asked<I: Read, O: Write>(
     alloc: Global,
     kind: Kind,
     bytes: &[u8],
@@ -494,25 +409,25 @@ fn answer_bytes<I: Read, O: Write>(
     output: &mut O,
 ) -> Result<(), Fault>
     ensures refused { KeepsIfRefused result (O.contents output.old) (O.contents output.new) }
-    ensures cause { IfErr result IsQueryFault }
+    ensures cause { IfErr result (IsAmong query_faults) }
     ensures turns { IfErr result (UsesTurns (I.remaining input.old) (I.remaining input.new)) }
-    ensures right { IsRightAs kind bytes.now → IfErr result IsAnswerFault }
-    ensures fault { IfErr result (λ fault. IsFaultIn kind bytes.now fault) }
+    ensures right { IsRightAs (taken_as kind bytes.now) bytes.now
+        → IfErr result (IsAmong answer_faults) }
+    ensures fault { IfErr result (λ fault. IsFaultAsked kind bytes.now fault) }
     ensures left { WhereTold (I.remaining input.old) (λ given. IfErr result
         (λ fault. (O.contents output.new ≡ O.contents output.old)
-        ⊎ AreStopped kind bytes.now given (I.remaining input.new) (O.contents output.old)
-        (O.contents output.new) fault)) }
+        ⊎ AreStopped (taken_as kind bytes.now) bytes.now given (I.remaining input.new)
+        (O.contents output.old) (O.contents output.new) fault)) }
     ensures answers { WhereTold (I.remaining input.old) (λ given. IfOk result
-        (λ _. AreAnswered kind bytes.now given (I.remaining input.new)
+        (λ _. AreAnswered (taken_as kind bytes.now) bytes.now given (I.remaining input.new)
         (O.contents output.old) (O.contents output.new))) }
 {
-    let kept = accept(kind, bytes)?;
-    answer(kind, kept, alloc, bytes, input, output)
+    let kept = accept_asked(kind, bytes)?;
+    answer(taken_kind(kind, bytes), kept, alloc, bytes, input, output)
 }
 
 /// Answers each line of the input over the database of a table that isn't in memory.
-// a checked table takes 18 KB of stack: inlined, it would add them to the room of its caller; and
-// it is handed on, since one that is lent has a room more
+// so that the 18 KB of stack of a checked table are not its caller's
 #[inline(never)]
 fn answer_table<T: Table + Drop, I: Read, O: Write>(
     alloc: Global,
@@ -521,7 +436,7 @@ fn answer_table<T: Table + Drop, I: Read, O: Write>(
     output: &mut O,
 ) -> Result<(), Fault>
     ensures refused { KeepsIfRefused result (O.contents output.old) (O.contents output.new) }
-    ensures cause { IfErr result IsQueryFault }
+    ensures cause { IfErr result (IsAmong query_faults) }
     ensures turns { IfErr result (UsesTurns (I.remaining input.old) (I.remaining input.new)) }
 {
     reply(alloc, check(table), input, output)
@@ -538,7 +453,7 @@ fn reply<T: Table + Drop, I: Read, O: Write>(
 ) -> Result<(), Fault>
     ensures refused { KeepsIfRefused result (O.contents output.old) (O.contents output.new) }
     ensures refusal { IfErr told (λ refused. result ≡ Err (of_check refused.1)) }
-    ensures cause { OnOk told (IfErr result IsAnswerFault) }
+    ensures cause { OnOk told (IfErr result (IsAmong answer_faults)) }
     ensures turns { IfErr result (UsesTurns (I.remaining input.old) (I.remaining input.new)) }
 {
     match &mut told {
@@ -556,7 +471,7 @@ fn accepted<T: Table>(
 ) -> Result<&mut Checked<T>, Fault>
     ensures checked { IfOk result (λ checked. told.old ≡ Ok checked.now) }
     ensures refused { IfErr told.old (λ refused. result ≡ Err (of_check refused.1)) }
-    ensures cause { IfErr result IsCheckFault }
+    ensures cause { IfErr result (IsAmong check_faults) }
     ensures fault { (file : List ℕ) → IfErr told.old (λ refused. IsFirst file refused.1)
         → IfErr result (λ fault. IsFaultIn Database file fault) }
 {
@@ -576,21 +491,10 @@ fn write_built<D: Disk, O: Write>(
     path: &str,
     output: &mut O,
 ) -> Result<(), Fault>
-    ensures refused { KeepsIfRefused result (O.contents output.old) (O.contents output.new) }
     ensures over { greatest kind < pips → result ≡ Err Fault.OverBound }
-    ensures within { OnOk result (pips ≤ greatest kind) }
-    ensures cause { IfErr result (IsBoundFault (greatest kind) pips) }
-    ensures left { OnErr result (AppendsPart (O.contents output.old) (O.contents output.new)
-        (count_line Built pips (count_to pips))) }
-    ensures handed { OnOk result (IsHandedTo ⟦<BufWriter<D::File> as Write>⟧.contents
-        (WritesBuiltOf kind pips)) }
-    ensures put { OnOk result (Puts (D.paths disk.old) path.now (IsBuiltOf kind pips)
-        (D.told disk.old) (D.told disk.new)) }
-    ensures built { OnOk result (Appends (O.contents output.old) (O.contents output.new)
-        (count_line Built pips (count_to pips))) }
-    ensures kept { LeavesFor (D.paths disk.old) (build kind pips path.now)
-        (D.told disk.old) (D.told disk.new) (D.kept disk.new) }
-    ensures stays { KeepsIfRefused result (D.told disk.old) (D.told disk.new) }
+    ensures ends { (input : Option (List ℕ)) → Ends D.Reader.remaining D.File.contents
+        (build kind pips path.now) (world ⟦<D as Disk>⟧ disk.old input (O.contents output.old))
+        (world ⟦<D as Disk>⟧ disk.new input (O.contents output.new)) (as_failed result) }
 {
     if pips > greatest(kind) {
         return Err(Fault::OverBound);
@@ -620,37 +524,24 @@ fn report_file<D: Disk, O: Write>(
     report: Report,
     output: &mut O,
 ) -> Result<(), Fault>
-    ensures refused { KeepsIfRefused result (O.contents output.old) (O.contents output.new) }
-    ensures cause { IfErr result IsCheckFault }
-    ensures fault { IfErr result (λ fault. IsOwnFault (Some kind) (IsReadFrom D.Reader.remaining
-        (D.paths disk.old) (D.told disk.old) path.now) fault) }
-    ensures right { report ≡ Count → OnOk result (SaysRight (Some kind)
-        (IsReadFrom D.Reader.remaining (D.paths disk.old) (D.told disk.old) path.now)
-        (O.contents output.old) (O.contents output.new)) }
-    ensures left { report ≡ Count → OnErr result (LeavesLine (Some kind)
-        (IsReadFrom D.Reader.remaining (D.paths disk.old) (D.told disk.old) path.now)
-        (O.contents output.old) (O.contents output.new)) }
-    ensures levels { report ≡ Levels → OnOk result (SaysLevels (Some kind)
-        (IsReadFrom D.Reader.remaining (D.paths disk.old) (D.told disk.old) path.now)
-        (O.contents output.old) (O.contents output.new)) }
-    ensures left_levels { report ≡ Levels → OnErr result (LeavesLevels (Some kind)
-        (IsReadFrom D.Reader.remaining (D.paths disk.old) (D.told disk.old) path.now)
-        (O.contents output.old) (O.contents output.new)) }
-    ensures stays { D.told disk.new ≡ D.told disk.old }
+    ensures { (input : Option (List ℕ)) → Ends D.Reader.remaining D.File.contents
+        (report_of report kind path.now)
+        (world ⟦<D as Disk>⟧ disk.old input (O.contents output.old))
+        (world ⟦<D as Disk>⟧ disk.new input (O.contents output.new)) (as_failed result) }
 {
-    let bytes = read_file(disk, alloc, path)?;
-    let kept = accept(kind, bytes.as_slice())?;
+    let file = read_file(disk, alloc, path)?;
+    let bytes = file.as_slice();
+    let kept = accept_asked(kind, bytes)?;
     match report {
         Report::Count => {
             let line = count_line(Done::Checked, kept.bound);
             write_flushed(line.as_str().as_bytes(), output)
         }
-        Report::Levels => write_levels(kind, kept, bytes.as_slice(), output),
+        Report::Levels => write_levels(taken_kind(kind, bytes), kept, bytes, output),
     }
 }
 
-/// Checks a file of the kind that its header states, and tells what it is. Where that fails by a
-/// fault of the file, the refusal says what it means.
+/// Checks a file of any kind, and tells what it is, or what its fault means.
 #[inline(never)]
 fn about_file<'a, D: Disk, O: Write>(
     disk: &mut D,
@@ -658,14 +549,9 @@ fn about_file<'a, D: Disk, O: Write>(
     path: &'a str,
     output: &mut O,
 ) -> Result<(), ProgramFault<'a>>
-    ensures refused { KeepsIfTold result (O.contents output.old) (O.contents output.new) }
-    ensures fault { IfErr result (IsAboutEnd (IsReadFrom D.Reader.remaining
-        (D.paths disk.old) (D.told disk.old) path.now) path.now
-        (O.contents output.old) (O.contents output.new)) }
-    ensures about { OnOk result (SaysAbout (IsReadFrom D.Reader.remaining
-        (D.paths disk.old) (D.told disk.old) path.now)
-        (O.contents output.old) (O.contents output.new)) }
-    ensures stays { D.told disk.new ≡ D.told disk.old }
+    ensures { (input : Option (List ℕ)) → Ends D.Reader.remaining D.File.contents
+        (about path.now) (world ⟦<D as Disk>⟧ disk.old input (O.contents output.old))
+        (world ⟦<D as Disk>⟧ disk.new input (O.contents output.new)) result }
 {
     let file = match read_file(disk, alloc, path) {
         Ok(file) => file,
@@ -673,13 +559,13 @@ fn about_file<'a, D: Disk, O: Write>(
     };
     let bytes = file.as_slice();
     let kind = stated_kind(bytes);
-    match accept(kind, bytes) {
+    match accept_stated(bytes) {
         Ok(kept) => {
             let text = about_text(kind, kept.version, kept.bound);
             refused(write_flushed(text.as_str().as_bytes(), output))
         }
-        Err(fault) => Err(ProgramFault::Explained(FileFault {
-            fault,
+        Err(cause) => Err(ProgramFault::Explained(FileFault {
+            fault: Fault::from(cause),
             path,
             reason: None,
         })),
@@ -702,8 +588,7 @@ fn explained<'a>(path: &'a str, unread: Unread) -> ProgramFault<'a>
     })
 }
 
-/// What a file is: its kind, its version, its pip bound and its number of positions, each on a
-/// line.
+/// A file's kind, version, pip bound and number of positions, each on a line.
 // so that the room of the ranks is not part of its caller's
 #[inline(never)]
 fn about_text(kind: Kind, version: u16, pips: u8) -> ArrayString<96>
@@ -725,8 +610,7 @@ fn about_text(kind: Kind, version: u16, pips: u8) -> ArrayString<96>
     text
 }
 
-/// Checks the database in an old file, writes it into a new one as a file of version 2, and says
-/// so. The new file is not opened where the old one was refused, or is of version 2 already.
+/// Checks an old database file, and writes it as one of version 2, unless it is of that already.
 #[inline(never)]
 fn upgrade_database<D: Disk, O: Write>(
     disk: &mut D,
@@ -735,23 +619,9 @@ fn upgrade_database<D: Disk, O: Write>(
     new: &str,
     output: &mut O,
 ) -> Result<(), Fault>
-    ensures refused { KeepsIfRefused result (O.contents output.old) (O.contents output.new) }
-    ensures cause { IfErr result IsUpgradeFault }
-    ensures fault { IfErr result (λ fault. IsOwnFault (Some Database) (IsReadFrom D.Reader.remaining
-        (D.paths disk.old) (D.told disk.old) old.now) fault) }
-    ensures left { OnErr result (IsNothingOr (Some Database) (IsReadFrom D.Reader.remaining
-        (D.paths disk.old) (D.told disk.old) old.now)
-        (λ file. SaysUpgradedPart file (O.contents output.old) (O.contents output.new))
-        (O.contents output.old) (O.contents output.new)) }
-    ensures upgraded { OnOk result
-        (SaysUpgraded (IsReadFrom D.Reader.remaining
-        (D.paths disk.old) (D.told disk.old) old.now) ⟦<BufWriter<D::File> as Write>⟧.contents
-        (O.contents output.old) (O.contents output.new)) }
-    ensures put { OnOk result (PutsUpgrade (D.paths disk.old) new.now
-        (D.told disk.old) (D.told disk.new)) }
-    ensures kept { LeavesFor (D.paths disk.old) (upgrade old.now new.now)
-        (D.told disk.old) (D.told disk.new) (D.kept disk.new) }
-    ensures stays { KeepsIfRefused result (D.told disk.old) (D.told disk.new) }
+    ensures { (input : Option (List ℕ)) → Ends D.Reader.remaining D.File.contents
+        (upgrade old.now new.now) (world ⟦<D as Disk>⟧ disk.old input (O.contents output.old))
+        (world ⟦<D as Disk>⟧ disk.new input (O.contents output.new)) (as_failed result) }
 {
     let bytes = read_file(disk, alloc, old)?;
     let mut told = check(Whole::new(bytes.as_slice()));

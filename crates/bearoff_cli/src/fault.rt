@@ -1,10 +1,8 @@
-//! Why the program ends with another status than 0, and the one line that it then writes to
-//! standard error.
+//! Why the program ends with another status than 0, and the line that it then writes.
 ghost use Rattle.std.specs.Prelude.{◌≡◌, ◌≤◌, length, OnOk};
 ghost use Rattle.std.specs.Io.KnownBytes.{Appends};
 ghost use Rattle.db_layout.specs.Writes.{AppendsPart};
-ghost use Rattle.bearoff_cli.specs.Causes.{of_check, of_build, of_upgrade, of_run};
-ghost use Rattle.bearoff_cli.specs.Lines.{word_of, error_line, status_of};
+ghost use Rattle.bearoff_cli.specs.Faults.{of_check, of_build, of_upgrade, of_run, word_of, error_line, status_of};
 ghost use Rattle.bearoff_cli.specs.declared.fault.Fault.TheVariants.{Memory, Refused};
 
 use arrayvec::ArrayString;
@@ -57,13 +55,21 @@ pub enum Fault {
 
     /// No line of `ask` was answered.
     #[error("no line was answered")]
-    Unanswered,
+    Unanswered(Hint),
+}
+
+/// What may bring an answer where no line of `ask` has one: a larger file, quotes, or a query; and
+/// for `show` a position.
+#[derive(Clone, Copy, Debug, PartialEq, Eq)]
+pub enum Hint {
+    Board,
+    Quotes,
+    Query,
+    Position,
 }
 
 impl Fault {
-    /// The exit status: 1 for what failed outside the database, and for lines of which none was
-    /// answered, 2 for a bound that is too large, 3 for a database that was refused, or that is no
-    /// old one.
+    /// The exit status: 1 a failure, 2 too large a bound, 3 a refused database or no old one.
     pub fn status(&self) -> u8
         ensures { result ≡ status_of self.now }
     {
@@ -140,8 +146,7 @@ impl From<RunFault> for Fault {
     }
 }
 
-/// Writes the line of a fault: `bearoff: `, its word, and a line feed. Refused only where a `write`
-/// fails or takes no byte; then a prefix of the line was written.
+/// Writes the line of a fault, or where a `write` fails or takes no byte, a prefix of it.
 pub fn write_fault<E: Write>(fault: &Fault, errors: &mut E) -> Result<(), WriteFault>
     ensures all { OnOk result
         (Appends (E.contents errors.old) (E.contents errors.new) (error_line fault.now)) }
@@ -175,7 +180,12 @@ fn word(fault: &Fault) -> ArrayString<80>
         Fault::Turns => text("turns"),
         Fault::OverBound => text("over-bound"),
         Fault::NotOld => text("not-old"),
-        Fault::Unanswered => text("unanswered (a LINE is one word: 'mean 0,0,0,0,0,1')"),
+        Fault::Unanswered(Hint::Board) => text("unanswered (a board file has all positions)"),
+        Fault::Unanswered(Hint::Quotes) => text("unanswered (quote a LINE: 'mean 0,0,0,0,0,1')"),
+        Fault::Unanswered(Hint::Query) => {
+            text("unanswered (queries: play 0,0,0,2,0,0 21, or mean, dist, loss, moves, rank)")
+        }
+        Fault::Unanswered(Hint::Position) => text("unanswered (positions: XGID, ID or six counts)"),
         Fault::Refused(refused) => {
             let mut word = text("refused ");
             word.push_str(fault_line(refused).as_str());
@@ -186,7 +196,7 @@ fn word(fault: &Fault) -> ArrayString<80>
 
 /// A text.
 fn text(text: &str) -> ArrayString<80>
-    requires { length text.now ≤ 64 }
+    requires { length text.now ≤ 80 }
     ensures { result.bytes ≡ text.now }
 {
     let mut word = ArrayString::new();

@@ -1,49 +1,41 @@
 //! Files, read and written by blocks.
-ghost use Rattle.std.specs.Prelude.{◌≡◌, ℕ, ◌≤◌, length, take, Ok, Err, IfOk, IfErr, IsSome, OnOk, OnErr};
+ghost use Rattle.std.specs.Prelude.{◌≡◌, ◌≤◌, length, take, Ok, Err, IfOk, IfErr, IsSome, OnOk, OnErr};
 ghost use Rattle.std.specs.Io.KnownBytes.{Appends, Consumes, IsAtEnd, Keeps};
-ghost use Rattle.bearoff_cli.specs.Lines.{status_of};
-ghost use Rattle.bearoff_cli.specs.declared.fault.Fault.TheVariants.{File, Write, Memory};
-ghost use Rattle.retrograde.specs.BuiltBoards.{IsBuiltBoard};
-ghost use Rattle.bearoff_cli.specs.Faults.{IsBuildFault, IsReadFault, IsUpgradeFault, of_unread};
-ghost use Rattle.command_line.specs.Asked.{build};
+ghost use Rattle.bearoff_cli.specs.Faults.{status_of, IsAmong, build_faults, of_unread, read_faults, upgrade_faults};
+ghost use Rattle.bearoff_cli.specs.declared.fault.Fault.TheVariants.{File, Write};
 ghost use Rattle.bearoff_cli.specs.FileAnswers.{IsHandedTo, IsReadFrom};
-ghost use Rattle.bearoff_cli.specs.Kinds.{IsBuiltOf, Makes, WritesBuiltOf, greatest};
-ghost use Rattle.bearoff_cli.specs.PutFiles.{IsEnded, KeepsAll, LeavesFor};
-ghost use Rattle.db_layout.specs.declared.stated.Kind.{Kind};
-ghost use Rattle.race_model.specs.Versions.{full};
+ghost use Rattle.bearoff_cli.specs.Kinds.{IsBuiltOf, WritesBuiltOf};
+ghost use Rattle.bearoff_cli.specs.PutFiles.{IsEnded, KeepsAll};
+ghost use Rattle.race_model.specs.Prelude.{full, IsUpgrade};
 ghost use Rattle.db_layout.specs.Writes.{AppendsPart};
 ghost use Rattle.db_reader.specs.Telling.{WhereTold};
 ghost use Rattle.certificate.specs.Upgrades.{WritesUpgrade};
-ghost use Rattle.race_model.specs.Upgrades.{IsUpgrade};
 ghost use Rattle.std.specs.Io.Buffered.{writer_contents};
-ghost use Rattle.whole_file.specs.Drafts.{IsBegun, IsDropped, IsGone, IsLeft, IsPut};
+ghost use Rattle.whole_file.specs.Drafts.{IsDropped, IsGone, IsPut};
 ghost use Rattle.whole_file.specs.Puts.{Puts};
 
 use crate::fault::Fault;
 use certificate::Checked;
-use db_layout::{BoardHeader, Kind, write_bytes};
+use db_layout::{BoardHeader, Header, Kind, write_bytes};
 use db_reader::Table;
-use retrograde::{ReadyBuild, build_board};
+use retrograde::{build, build_board, usual_version};
 use std::alloc::{AllocError, Global};
 use std::io;
 use std::io::{BufWriter, Read, Write};
 use whole_file::{Disk, Draft, DraftFault, begin};
 
-/// How many bytes one read moves. They lie on the stack, which can't grow while room is kept for a
-/// check (`stack_room`), beyond the 128 KB that the system gives a program at its start.
+/// How many bytes one read moves, on a stack that can't grow while `stack_room` keeps its room.
 const BLOCK: usize = 32768;
 
-/// How many bytes of stack a check or a build needs at most, beside the 128 KB that the system
-/// gives a program at its start.
+/// How many bytes of stack a check or a build needs at most, beyond the 128 KB of a start.
 const STACK: usize = 896 << 10;
 
 /// How many bytes a record that is kept takes at most, with its part of the tables of the cache.
 const KEPT_RECORD: usize = 640;
 
-/// How many bytes of a file are read at most: one more than a file that is read whole may have,
-/// so that a longer file keeps the fault of its header, which is its length if it has no other
-/// (this project's profile).
-const MOST_BYTES: usize = 20_000_001;
+/// How many bytes of a file are read at most: one more than a whole file may have, so that a
+/// longer one keeps the fault of its header, its length if it has no other.
+pub const MOST_BYTES: usize = 20_000_001;
 
 /// Why a file was not read, with what the system says of it.
 #[derive(Drop)]
@@ -59,7 +51,7 @@ pub enum Unread {
 }
 
 impl From<Unread> for Fault {
-    ghost from_gives = { λ unread fault. (fault ≡ of_unread unread) × IsReadFault fault };
+    ghost from_gives = { λ unread fault. (fault ≡ of_unread unread) × IsAmong read_faults fault };
 
     fn from(unread: Unread) -> Self {
         match unread {
@@ -70,15 +62,26 @@ impl From<Unread> for Fault {
     }
 }
 
+impl From<DraftFault> for Fault {
+    ghost from_gives = { λ _ fault. (status_of fault ≡ 1) × IsAmong build_faults fault };
+
+    fn from(fault: DraftFault) -> Self {
+        match fault {
+            DraftFault::Open => Fault::Open,
+            DraftFault::Write => Fault::Write,
+            DraftFault::Memory => Fault::Memory,
+        }
+    }
+}
+
 impl From<AllocError> for Unread {
     fn from(_error: AllocError) -> Self {
         Unread::Memory
     }
 }
 
-/// The bytes of a file, at most 20,000,001 of them. `Memory` where there is no room for the stack
-/// that a check needs, `Open` where the file can't be opened, `Read` where a read fails, and
-/// `Memory` where there is no room for the bytes.
+/// At most 20,000,001 bytes of a file. `Memory` where a check's stack or the bytes find
+/// no room, `Open` where the file can't be opened, `Read` where a read fails.
 pub fn read_file<D: Disk>(disk: &mut D, alloc: Global, path: &str) -> Result<Vec<u8>, Unread>
     ensures read { IfOk result (λ bytes. IsReadFrom D.Reader.remaining (D.paths disk.old)
         (D.told disk.old) path.now bytes.items) }
@@ -95,7 +98,7 @@ pub fn read_file<D: Disk>(disk: &mut D, alloc: Global, path: &str) -> Result<Vec
 }
 
 /// The bytes that a reader has left, at most 20,000,001 of them.
-fn read_bytes<F: Read>(alloc: Global, file: &mut F) -> Result<Vec<u8>, Unread>
+pub fn read_bytes<F: Read>(alloc: Global, file: &mut F) -> Result<Vec<u8>, Unread>
     ensures read { WhereTold (F.remaining file.old)
         (λ left. IfOk result (λ bytes. bytes.items ≡ take 20000001 left)) }
 {
@@ -115,25 +118,13 @@ fn read_bytes<F: Read>(alloc: Global, file: &mut F) -> Result<Vec<u8>, Unread>
     Ok(bytes)
 }
 
-/// Room that is kept while memory grows, and let go before a check or a build, so that its stack
-/// can grow then. Where it could not, the system would end the program with no word. A run takes it
-/// once: what is taken a second time the C library doesn't give back to the system.
-pub fn stack_room(alloc: Global) -> Result<Vec<u8>, Fault>
-    ensures { IfErr result (λ fault. fault ≡ Memory) }
-{
-    Ok(Vec::with_capacity(alloc, STACK)?)
+/// Room that is kept while memory grows, and let go before a check or a build for its stack. A run
+/// takes it once: what is taken a second time the C library doesn't give back to the system.
+pub fn stack_room(alloc: Global) -> Result<Vec<u8>, AllocError> {
+    Vec::with_capacity(alloc, STACK)
 }
 
-/// Whether the stack can grow as far as a check or a build needs: `Memory` where it can't.
-pub fn probe_stack(alloc: Global) -> Result<(), Fault>
-    ensures { IfErr result (λ fault. fault ≡ Memory) }
-{
-    drop(stack_room(alloc)?);
-    Ok(())
-}
-
-/// How many records there is room for, at most so many, and at least one. A cache that took all
-/// memory would leave the stack none to grow.
+/// How many records there is room for: at least one, at most so many, and some memory is left.
 pub fn affordable(alloc: Global, records: u16) -> u16
     ensures some { 1 ≤ result }
     ensures most { 1 ≤ records → result ≤ records }
@@ -166,21 +157,6 @@ fn read_block<'a, F: Read>(file: &mut F, block: &'a mut [u8; BLOCK]) -> Result<&
     }
 }
 
-/// Begins to write a file (`whole_file`).
-fn begin_file<D: Disk>(disk: &mut D, alloc: Global, path: &str) -> Result<Draft<D>, Fault>
-    ensures cause { IfErr result IsBuildFault }
-    ensures paths { D.paths disk.new ≡ D.paths disk.old }
-    ensures begun { IfOk result (λ draft. IsBegun (D.paths disk.old) path.now draft.names
-        (writer_contents D.File.contents draft.writer) (D.told disk.old) (D.told disk.new)) }
-    ensures stays { OnErr result (IsLeft (D.paths disk.old) path.now
-        (D.told disk.old) (D.told disk.new) (D.kept disk.new)) }
-{
-    match begin(disk, alloc, path) {
-        Ok(draft) => Ok(draft),
-        Err(fault) => Err(of_draft(fault)),
-    }
-}
-
 /// Ends a file that was written, or one at which a fault came, which is then answered.
 fn finish_file<D: Disk>(
     disk: &mut D,
@@ -188,7 +164,7 @@ fn finish_file<D: Disk>(
     written: Result<(), Fault>,
 ) -> Result<(), Fault>
     ensures fault { IfErr written (λ fault. result ≡ Err fault) }
-    ensures cause { IfOk written (λ _. IfErr result IsBuildFault) }
+    ensures cause { IfOk written (λ _. IfErr result (IsAmong build_faults)) }
     ensures paths { D.paths disk.new ≡ D.paths disk.old }
     ensures put { OnOk result (IsPut (D.paths disk.old) draft.names
         (writer_contents D.File.contents draft.writer) (D.told disk.old) (D.told disk.new)
@@ -204,7 +180,7 @@ fn finish_file<D: Disk>(
     match written {
         Ok(()) => match draft.finish(disk, Ok(())) {
             Ok(()) => Ok(()),
-            Err(fault) => Err(of_draft(fault)),
+            Err(fault) => Err(Fault::from(fault)),
         },
         Err(fault) => {
             let _ = draft.finish(disk, Err(DraftFault::Write));
@@ -213,22 +189,9 @@ fn finish_file<D: Disk>(
     }
 }
 
-/// Why a file was not written, as a fault of the program.
-fn of_draft(fault: DraftFault) -> Fault
-    ensures status { status_of result ≡ 1 }
-    ensures cause { IsBuildFault result }
-{
-    match fault {
-        DraftFault::Open => Fault::Open,
-        DraftFault::Write => Fault::Write,
-        DraftFault::Memory => Fault::Memory,
-    }
-}
-
-/// Writes the file of a kind and a pip bound, which takes the place of an old one once it is
-/// complete (`draft`). The memory that it needs is taken before the file is begun. `Open` where it
-/// can't be made, and `Write` where a write fails: then the old file stays, or, where the bytes go
-/// straight into it, it may hold a prefix of the new one.
+/// Builds the file of a kind and a pip bound in memory, and then writes it: it takes the place of
+/// an old one once it is complete (`draft`). `Open` where it can't be made, and `Write` where a
+/// write fails: then the old file stays, or, written straight, may hold a prefix of the new one.
 pub fn build_file<D: Disk>(
     disk: &mut D,
     alloc: Global,
@@ -236,92 +199,55 @@ pub fn build_file<D: Disk>(
     pips: u8,
     path: &str,
 ) -> Result<(), Fault>
-    ensures cause { pips ≤ greatest kind → IfErr result IsBuildFault }
+    ensures cause { IfErr result (IsAmong build_faults) }
     ensures built { OnOk result (IsHandedTo ⟦<BufWriter<D::File> as Write>⟧.contents
         (WritesBuiltOf kind pips)) }
     ensures paths { D.paths disk.new ≡ D.paths disk.old }
     ensures put { OnOk result (Puts (D.paths disk.old) path.now (IsBuiltOf kind pips)
         (D.told disk.old) (D.told disk.new)) }
-    ensures kept { LeavesFor (D.paths disk.old) (build kind pips path.now)
+    ensures kept { KeepsAll (D.paths disk.old) path.now (IsBuiltOf kind pips)
         (D.told disk.old) (D.told disk.new) (D.kept disk.new) }
 {
-    let room = stack_room(alloc)?;
-    let ready = ready_build(alloc, kind, pips)?;
-    let mut draft = begin_file(disk, alloc, path)?;
-    drop(room);
-    let written = build_into(ready, &mut draft.writer);
+    let file = built_file(alloc, kind, pips)?;
+    let mut draft = begin(disk, alloc, path)?;
+    let written = write_flushed(file.as_slice(), &mut draft.writer);
     finish_file(disk, draft, written)
 }
 
-/// A build that has taken its memory.
-#[derive(Drop)]
-enum Ready {
-    /// That of a database.
-    Database(ReadyBuild),
-
-    /// That of the board file of a pip bound, which is made in a room of as many bytes.
-    Board { pips: u8, room: Vec<u8> },
-}
-
-/// Takes the memory of a build.
-fn ready_build(alloc: Global, kind: Kind, pips: u8) -> Result<Ready, Fault>
-    ensures cause { pips ≤ greatest kind → IfErr result IsBuildFault }
-    ensures made { IfOk result (λ ready. Makes ready kind pips) }
-{
-    match kind {
-        Kind::Database => Ok(Ready::Database(ReadyBuild::new(alloc, pips)?)),
-        Kind::Board => {
-            let room = board_room(alloc, pips)?;
-            Ok(Ready::Board { pips, room })
-        }
-    }
-}
-
-/// Writes the file of a build, to its last byte.
-fn build_into<O: Write>(ready: Ready, output: &mut O) -> Result<(), Fault>
-    ensures cause { (kind : Kind) (pips : ℕ) → Makes ready kind pips → pips ≤ greatest kind
-        → IfErr result IsBuildFault }
-    ensures built { (kind : Kind) (pips : ℕ) → Makes ready kind pips
-        → OnOk result (WritesBuiltOf kind pips (O.contents output.old) (O.contents output.new)) }
-{
-    match ready {
-        Ready::Database(database) => {
-            database.write(output)?;
-            flush(output)
-        }
-        Ready::Board { pips, mut room } => write_flushed(whole_board(pips, &mut room)?, output),
-    }
-}
-
-/// As many bytes as the board file of a pip bound has.
-fn board_room(alloc: Global, pips: u8) -> Result<Vec<u8>, Fault>
-    ensures { IfErr result (λ fault. fault ≡ Memory) }
-{
-    let size = match BoardHeader::new(pips) {
-        Some(header) => header.end(),
-        None => 0,
-    };
-    Ok(vec![in alloc; 0; size]?)
-}
-
-/// The board file of a pip bound, made in a room that has as many bytes.
+/// The built file of a kind and a pip bound, refused where it or the stack finds no room.
 // so that the room of the builder is not part of its caller's
 #[inline(never)]
-fn whole_board(pips: u8, room: &mut Vec<u8>) -> Result<&[u8], Fault>
-    ensures cause { IfErr result IsBuildFault }
-    ensures built { IfOk result (λ file. IsBuiltBoard pips file.now) }
+pub fn built_file(alloc: Global, kind: Kind, pips: u8) -> Result<Vec<u8>, AllocError>
+    ensures { IfOk result (λ file. IsBuiltOf kind pips file.items) }
 {
-    match build_board(pips, room.as_mut_slice()) {
-        Ok(count) => {
-            room.truncate(count);
-            Ok(room.as_slice())
+    let room = stack_room(alloc)?;
+    match kind {
+        Kind::Database => {
+            let header = Header::new(usual_version(pips), pips);
+            let size = header.map_or(0, |header| header.end() as usize);
+            let mut file = Vec::with_capacity(alloc, size)?;
+            drop(room);
+            match build(alloc, pips, &mut file) {
+                Ok(()) => Ok(file),
+                Err(_) => Err(AllocError),
+            }
         }
-        Err(_) => Err(Fault::Memory),
+        Kind::Board => {
+            let size = BoardHeader::new(pips).map_or(0, |header| header.end());
+            let mut file = vec![in alloc; 0; size]?;
+            drop(room);
+            match build_board(pips, file.as_mut_slice()) {
+                Ok(count) => {
+                    file.truncate(count);
+                    Ok(file)
+                }
+                Err(_) => Err(AllocError),
+            }
+        }
     }
 }
 
-/// Writes a checked database of version 1 into a file as one of version 2, with the faults of
-/// `build_file`.
+/// Writes a checked database of version 1 as a file of version 2, with `build_file`'s faults.
 pub fn upgrade_file<D: Disk, T: Table>(
     disk: &mut D,
     alloc: Global,
@@ -336,12 +262,12 @@ pub fn upgrade_file<D: Disk, T: Table>(
         (IsUpgrade file) (D.told disk.old) (D.told disk.new))) }
     ensures kept { WhereTold checked.old.told (λ file. KeepsAll (D.paths disk.old) path.now
         (IsUpgrade file) (D.told disk.old) (D.told disk.new) (D.kept disk.new)) }
-    ensures cause { IfErr result IsUpgradeFault }
+    ensures cause { IfErr result (IsAmong upgrade_faults) }
     ensures fault { checked.old.version ≡ full → IfErr result (λ fault. status_of fault ≡ 1) }
     ensures stays { (checked.new.told ≡ checked.old.told)
         × (checked.new.bound ≡ checked.old.bound) }
 {
-    let mut draft = begin_file(disk, alloc, path)?;
+    let mut draft = begin(disk, alloc, path)?;
     let written = upgrade_into(checked, &mut draft.writer);
     finish_file(disk, draft, written)
 }
@@ -350,7 +276,7 @@ pub fn upgrade_file<D: Disk, T: Table>(
 fn upgrade_into<T: Table, O: Write>(checked: &mut Checked<T>, output: &mut O) -> Result<(), Fault>
     ensures upgraded { WhereTold checked.old.told (λ file. OnOk result
         (WritesUpgrade file (O.contents output.old) (O.contents output.new))) }
-    ensures cause { IfErr result IsUpgradeFault }
+    ensures cause { IfErr result (IsAmong upgrade_faults) }
     ensures fault { checked.old.version ≡ full → IfErr result (λ fault. status_of fault ≡ 1) }
     ensures stays { (checked.new.told ≡ checked.old.told)
         × (checked.new.bound ≡ checked.old.bound) }
@@ -378,8 +304,5 @@ pub fn flush<O: Write>(output: &mut O) -> Result<(), Fault>
     ensures cause { IfErr result (λ fault. fault ≡ Write) }
     ensures kept { Keeps (O.contents output.old) (O.contents output.new) }
 {
-    match output.flush() {
-        Ok(()) => Ok(()),
-        Err(_) => Err(Fault::Write),
-    }
+    output.flush().map_err(|_| Fault::Write)
 }

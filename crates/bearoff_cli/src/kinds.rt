@@ -1,45 +1,34 @@
-//! The two kinds of file that a command is given, a database and a board file, and what is done
-//! with the bytes of each.
-ghost use Rattle.std.specs.Prelude.{◌≡◌, ℕ, suc, ◌≤◌, List, Option, IfOk, IfErr, IsOk, OnOk, OnErr};
+//! The two kinds of file, a database and a board file, and what is done with the bytes of each.
+ghost use Rattle.std.specs.Prelude.{◌≡◌, ◌↔◌, ℕ, suc, ◌≤◌, List, None, Option, IfOk, IfErr, OnOk, OnErr};
 ghost use Rattle.std.specs.List.{IsAnyAnswer};
 ghost use Rattle.ranking.specs.Tables.{IsRankTable};
 ghost use Rattle.db_reader.specs.Telling.{WhereTold};
 ghost use Rattle.certificate.specs.declared.check_fault.CheckFault.{CheckFault};
-ghost use Rattle.race_model.specs.Books.{Book};
-ghost use Rattle.race_model.specs.Files.{bound_of};
-ghost use Rattle.race_model.specs.InputLines.{lines_of};
+ghost use Rattle.race_model.specs.Prelude.{Book, bound_of, lines_of, IsRight};
 ghost use Rattle.epc_query.specs.Runs.{IsRunStopped};
 ghost use Rattle.epc_query.specs.UsedReads.{HasUsed};
-ghost use Rattle.bearoff_cli.specs.Causes.{of_check};
+ghost use Rattle.bearoff_cli.specs.Faults.{of_check, IsAmong, UsesTurns, answer_faults};
 ghost use Rattle.bearoff_cli.specs.declared.fault.Fault.TheVariants.{Write};
-ghost use Rattle.bearoff_cli.specs.Faults.{IsAnswerFault, IsFirstAs, UsesTurns};
-ghost use Rattle.bearoff_cli.specs.FileAnswers.{IsAnsweredBy, WritesLevel, WritesLevels, AreAnswered};
-ghost use Rattle.epc_query.specs.Kinds.{IsAcceptedAs, IsRightAs, book_as};
-ghost use Rattle.bearoff_cli.specs.Kinds.{greatest, stated_kind};
-ghost use Rattle.bearoff_cli.specs.StoppedRuns.{AreStopped, WritesLevelPart, WritesLevelsPart};
+ghost use Rattle.bearoff_cli.specs.FileAnswers.{IsAnsweredBy, IsHinted, IsOverBy, WritesLevel, WritesLevels};
+ghost use Rattle.bearoff_cli.specs.FileAnswers.{AreAnswered};
+ghost use Rattle.epc_query.specs.Kinds.{IsAcceptedAs, IsFirstAs, IsRightAs, book_as};
+ghost use Rattle.bearoff_cli.specs.Kinds.{greatest, kind_as, taken_as};
+ghost use Rattle.bearoff_cli.specs.Requests.{AreStopped, WritesLevelPart, WritesLevelsPart};
 
-use crate::fault::Fault;
+use crate::fault::{Fault, Hint};
 use crate::files::flush;
-use certificate::check_board;
-use db_layout::{BOARD_BOUND, BOARD_VERSION, Kind, read_short};
-use epc_query::laws::law_level_text;
+use db_layout::{BOARD_BOUND, Kind};
 use epc_query::{
-    Accepted, Board, BoardText, Database, RunFault, Text, board_level, put_board_level, run_lines,
+    Accepted, Opened, RunFault, Text, accept_as, accept_stated, run_lines, stated_kind,
 };
 use home_board::MAX_BOUND;
-use query_text::{accepted_query, write_line};
+use query_text::{Refusal, accepted_query, write_line};
 use ranking::RankTable;
 use std::alloc::Global;
 use std::io::{Read, Write};
 
 /// How many reads of standard input there are at most.
 pub const TURNS: u64 = 1 << 40;
-
-/// Where the two bytes of the version stand in a header.
-const VERSION_PLACE: usize = 8;
-
-/// .. and where they end.
-const VERSION_END: usize = VERSION_PLACE + 2;
 
 /// The greatest pip bound of a file of a kind.
 pub fn greatest(kind: Kind) -> u8
@@ -51,40 +40,39 @@ pub fn greatest(kind: Kind) -> u8
     }
 }
 
-/// The kind that the header of a file states: a board file where its version is 3, and else, also
-/// where it has no version, a database.
-#[tactic(auto, unfolding(crate::specs::Kinds::stated_kind))]
-pub fn stated_kind(bytes: &[u8]) -> Kind
-    ensures { result ≡ stated_kind bytes.now }
+/// The kind as which a file is taken: the one that is asked for where that is a board file, and
+/// else the one that its header states.
+pub fn taken_kind(asked: Kind, bytes: &[u8]) -> Kind
+    ensures { result ≡ taken_as asked bytes.now }
 {
-    if bytes.len() < VERSION_END {
-        return Kind::Database;
-    }
-    match read_short(bytes, VERSION_PLACE) {
-        BOARD_VERSION => Kind::Board,
-        _ => Kind::Database,
+    match asked {
+        Kind::Database => stated_kind(bytes),
+        Kind::Board => Kind::Board,
     }
 }
 
-/// What is kept of bytes that are a right file of this kind.
-pub fn accept(kind: Kind, bytes: &[u8]) -> Result<Accepted, Fault>
-    ensures accepted { IfOk result (IsAcceptedAs kind bytes.now) }
-    ensures exactly { IsRightAs kind bytes.now → IsOk result }
+/// A file is right exactly where it is right as the kind that its header states.
+pub fn law_right_as_stated()
+    ensures { (f : List ℕ) → IsRight f ↔ IsRightAs (kind_as None f) f }
+{}
+
+/// What is kept of bytes that are a right file of the kind as which they are taken; else they are
+/// refused with their first fault of the kind that is asked for.
+pub fn accept_asked(asked: Kind, bytes: &[u8]) -> Result<Accepted, Fault>
+    ensures accepted { IfOk result (IsAcceptedAs (taken_as asked bytes.now) bytes.now) }
     ensures fault { IfErr result (λ fault. (cause : CheckFault)
-        × IsFirstAs kind bytes.now cause × (fault ≡ of_check cause)) }
+        × IsFirstAs asked bytes.now cause × (fault ≡ of_check cause)) }
+    ensures wrong { IfErr result (λ _. ¬ IsRightAs (taken_as asked bytes.now) bytes.now) }
 {
-    match kind {
-        Kind::Database => match epc_query::accept(bytes) {
+    match asked {
+        Kind::Database => match accept_stated(bytes) {
             Ok(kept) => Ok(kept),
-            Err(fault) => Err(Fault::from(fault)),
+            Err(fault) => match stated_kind(bytes) {
+                Kind::Database => Err(Fault::from(fault)),
+                Kind::Board => Ok(accept_as(Kind::Database, bytes)?),
+            },
         },
-        Kind::Board => match check_board(bytes) {
-            Ok(header) => Ok(Accepted {
-                version: BOARD_VERSION,
-                bound: header.bound,
-            }),
-            Err(refused) => Err(Fault::from(refused)),
-        },
+        Kind::Board => Ok(accept_as(Kind::Board, bytes)?),
     }
 }
 
@@ -100,7 +88,7 @@ pub fn answer<I: Read, O: Write>(
     output: &mut O,
 ) -> Result<(), Fault>
     requires { IsAcceptedAs kind bytes.now kept }
-    ensures cause { IfErr result IsAnswerFault }
+    ensures cause { IfErr result (IsAmong answer_faults) }
     ensures turns { IfErr result (UsesTurns (I.remaining input.old) (I.remaining input.new)) }
     ensures left { WhereTold (I.remaining input.old) (λ given. IfErr result
         (AreStopped kind bytes.now given (I.remaining input.new) (O.contents output.old)
@@ -115,8 +103,28 @@ pub fn answer<I: Read, O: Write>(
     }
 }
 
+/// The hint for the lines of a text where a file of a bound answers none of them.
+pub fn hint(bound: u8, lines: &str) -> Option<Hint>
+    ensures { IsHinted bound lines.now result }
+{
+    if has_answer(bound, lines) {
+        return None;
+    }
+    if has_over_bound(bound, lines) {
+        return Some(Hint::Board);
+    }
+    let bytes = lines.as_bytes();
+    let feeds = bytes.iter().filter(|byte| **byte == b'\n').count();
+    let spaces = bytes.iter().filter(|byte| **byte == b' ').count();
+    Some(if feeds >= 2 && spaces == 0 {
+        Hint::Quotes
+    } else {
+        Hint::Query
+    })
+}
+
 /// Whether a file of a bound answers some of the lines of a text, and so refuses not each of them.
-pub fn has_answer(bound: u8, lines: &str) -> bool
+fn has_answer(bound: u8, lines: &str) -> bool
     ensures { IsAnyAnswer (IsAnsweredBy bound) (lines_of lines.now) result }
 {
     lines.lines().any(|line| is_answered(bound, line))
@@ -127,6 +135,23 @@ fn is_answered(bound: u8, line: &str) -> bool
     ensures { IsAnsweredBy bound line.now result }
 {
     accepted_query(line.as_bytes(), bound).is_ok()
+}
+
+/// Whether it refuses one since the position has more pips.
+fn has_over_bound(bound: u8, lines: &str) -> bool
+    ensures { IsAnyAnswer (IsOverBy bound) (lines_of lines.now) result }
+{
+    lines.lines().any(|line| is_over(bound, line))
+}
+
+/// Whether it refuses a line for that.
+fn is_over(bound: u8, line: &str) -> bool
+    ensures { IsOverBy bound line.now result }
+{
+    matches!(
+        accepted_query(line.as_bytes(), bound),
+        Err(Refusal::OverBound)
+    )
 }
 
 /// Answers each line of the input over bytes that were accepted, as far as `run_lines` does.
@@ -149,28 +174,13 @@ fn run_kept<I: Read, O: Write>(
         (HasUsed 1099511627776 given (I.remaining input.new))) }
 {
     let ranks = RankTable::new();
-    match kind {
-        Kind::Database => {
-            let mut database = Database::kept(bytes, kept, &ranks);
-            run_lines(alloc, &mut database, &mut Text::new(), input, output, TURNS)
-        }
-        Kind::Board => {
-            let mut board = Board::kept(bytes, kept, &ranks);
-            run_lines(
-                alloc,
-                &mut board,
-                &mut BoardText::new(),
-                input,
-                output,
-                TURNS,
-            )
-        }
-    }
+    let mut opened = Opened::kept(kind, bytes, kept, &ranks);
+    let mut text = Text::new();
+    run_lines(alloc, &mut opened, &mut text, input, output, TURNS)
 }
 
-/// Why the answers to an input stopped, once the replies that the output may still hold are handed
-/// on, as they are where nothing stopped: the output, where it fails at that. After a failed write
-/// nothing more is written.
+/// Why the answers to an input stopped, once the output handed on the replies that it still held,
+/// or where it failed at that. After a failed write nothing more is written.
 pub fn handed_on<O: Write>(cause: RunFault, output: &mut O) -> RunFault
     ensures stopped { (book : Book) (given : List ℕ) (left old : Option (List ℕ)) →
         IsRunStopped book given left old (O.contents output.old) cause →
@@ -229,19 +239,8 @@ fn write_level<O: Write>(
     ensures level { OnOk result (WritesLevel kind bytes.now pips
         (O.contents output.old) (O.contents output.new)) }
 {
-    match kind {
-        Kind::Database => {
-            law_level_text();
-            let database = Database::kept(bytes, kept, ranks);
-            let level = database.level(pips).unwrap();
-            epc_query::write_level(&level, output).map_err(|_| Fault::Write)
-        }
-        Kind::Board => {
-            let board = Board::kept(bytes, kept, ranks);
-            let level = board_level(&board, pips).unwrap();
-            let mut text = BoardText::new();
-            put_board_level(&mut text, &level);
-            write_line(&mut text, output).map_err(|_| Fault::Write)
-        }
-    }
+    let opened = Opened::kept(kind, bytes, kept, ranks);
+    let mut text = Text::new();
+    opened.put_level(pips, &mut text).unwrap();
+    write_line(&mut text, output).map_err(|_| Fault::Write)
 }

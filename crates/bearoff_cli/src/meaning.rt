@@ -25,8 +25,7 @@ pub fn shown(alloc: Global, text: &str) -> Result<String, AllocError>
         .collect(alloc)
 }
 
-/// A character, or a question mark for one that controls a terminal, breaks a line, has no width or
-/// turns the direction of writing.
+/// A character, or a question mark for one that a terminal doesn't print as itself.
 fn shown_letter(letter: char) -> char
     ensures { result ≡ shown_letter letter }
 {
@@ -40,9 +39,8 @@ fn shown_letter(letter: char) -> char
     }
 }
 
-/// Writes what a fault means of the file at a path, as it is shown, on a line of its own: the path,
-/// the meaning, and what the system says of it, where it says anything. Refused only where a
-/// `write` fails or takes no byte; then a prefix of the line was written.
+/// Writes a line of the path as it is shown, the meaning of its fault, and what the system says of
+/// it. Refused only where a `write` fails or takes no byte; then a prefix of it was written.
 pub fn write_meaning<E: Write>(
     fault: &Fault,
     path: &str,

@@ -19,9 +19,8 @@ play 0,0,0,2,0,0 21. An empty line or help shows this, and quit or Ctrl-D ends t
 /// How many helps there are at most before one line.
 const MOST_HELPS: u64 = 1 << 40;
 
-/// An input of lines. Where somebody types them, a help stands before the first one, a prompt
-/// before each, and a read that gives an empty line or `help` alone is answered here; one that
-/// gives `quit` alone ends it.
+/// An input of lines. Where they are typed, a help stands before the first and a prompt before
+/// each; a read of an empty line or `help` alone is answered here, and `quit` alone ends it.
 #[derive(Drop)]
 pub struct Prompted<'a, I, T> {
     input: &'a mut I,

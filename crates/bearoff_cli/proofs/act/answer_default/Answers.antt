@@ -1,9 +1,10 @@
-use Rattle.std.proofs.Common.{ℕ, List, ◌++◌, Option, Result, Ok, Err, IfOk, ap, ◌∙◌}
-use Rattle.race_model.specs.BuiltFile.{IsBuilt}
+use Rattle.std.proofs.Common.{ℕ, List, Option, Result, Ok, Err, IfOk}
+use Rattle.race_model.specs.Prelude.{IsBuilt}
 use Rattle.retrograde.specs.UsualVersion.{usual_version}
 use Rattle.db_layout.specs.declared.stated.Kind.TheVariants.{Database}
 use Rattle.bearoff_cli.specs.FileAnswers.{AreAnswered, AreAnsweredOver}
 use Rattle.race_model.proofs.RightFiles.Right.{right_of_local}
+use Rattle.bearoff_cli.proofs.OpenedFiles.{database_stated}
 use Rattle.bearoff_cli.proofs.StoppedRuns.{built_stopped}
 use Rattle.bearoff_cli.proofs.act.answer_default.Goals as goal
 
@@ -18,25 +19,25 @@ over bound file given left old new (Err e) built is = tt
 
 pub returns-clause-answers : goal.returns-clause-answers
 returns-clause-answers g c given read =
-    let built = c.in_ok-build.ensures.built in
-    let bytes = c.as_slice.ensures.value ∙ built.2
-    ∙ ap (λ bytes. bytes ++ built.0) c.new-bytes.ensures.items in
-    over 8 built.0 given _ _ _ c.answer_bytes.result built.1
-    (rw bytes at (c.answer_bytes.ensures.answers given read))
+    let file = c.in_ok-file.file.items in
+    let built = c.in_ok-file.ensures {u = tt} in
+    let stated = database_stated file (right_of_local file built.local) in
+    over 8 file given _ _ _ c.answer_asked.result built
+    (rw (c.as_slice.ensures.value, stated) at (c.answer_asked.ensures.answers given read))
 
 pub returns-clause-left : goal.returns-clause-left
 returns-clause-left g c given read =
-    let built = c.in_ok-build.ensures.built in
-    let bytes = c.as_slice.ensures.value ∙ built.2
-    ∙ ap (λ bytes. bytes ++ built.0) c.new-bytes.ensures.items in
-    built_stopped built.0 given (g.I.Read.remaining c.answer_bytes.new.input)
-    (g.O.Write.contents c.args.output.now) (g.O.Write.contents c.answer_bytes.new.output)
-    c.answer_bytes.result built.1
-    (rw bytes at (c.answer_bytes.ensures.left given read))
+    let file = c.in_ok-file.file.items in
+    let built = c.in_ok-file.ensures {u = tt} in
+    let stated = database_stated file (right_of_local file built.local) in
+    built_stopped file given (g.I.Read.remaining c.answer_asked.new.input)
+    (g.O.Write.contents c.args.output.now) (g.O.Write.contents c.answer_asked.new.output)
+    c.answer_asked.result built
+    (rw (c.as_slice.ensures.value, stated) at (c.answer_asked.ensures.left given read))
 
 pub returns-clause-cause : goal.returns-clause-cause
 returns-clause-cause g c =
-    let built = c.in_ok-build.ensures.built in
-    let bytes = c.as_slice.ensures.value ∙ built.2
-    ∙ ap (λ bytes. bytes ++ built.0) c.new-bytes.ensures.items in
-    c.answer_bytes.ensures.right (rw bytes (right_of_local built.0 built.1.local))
+    let file = c.in_ok-file.file.items in
+    let right = right_of_local file (c.in_ok-file.ensures {u = tt}).local in
+    c.answer_asked.ensures.right
+    (rw (c.as_slice.ensures.value, database_stated file right) right)

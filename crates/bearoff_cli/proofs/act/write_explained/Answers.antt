@@ -3,7 +3,7 @@ use Rattle.std.proofs.Common.{◌≡◌, Result, Ok, Err, OnOk, ℕ, List, Optio
 use Rattle.std.specs.Io.KnownBytes.{Appends}
 use Rattle.db_layout.proofs.Known.{appends_twice}
 use Rattle.query_text.proofs.Held.{part_after, part_all, part_longer}
-use Rattle.bearoff_cli.specs.Lines.{error_line}
+use Rattle.bearoff_cli.specs.Faults.{error_line}
 use Rattle.bearoff_cli.specs.Meanings.{meaning_line, shown}
 use Rattle.bearoff_cli.proofs.act.write_explained.Goals as goal
 

@@ -1,7 +1,7 @@
 -- The upgrade was handed to the writer of the file that was begun.
 use Rattle.std.specs.Io.Buffered.{writer_contents}
 use Rattle.certificate.specs.Upgrades.{WritesUpgrade}
-use Rattle.race_model.specs.Upgrades.{IsUpgrade}
+use Rattle.race_model.specs.Prelude.{IsUpgrade}
 use Rattle.whole_file.proofs.Puts.{puts, tidy_besides, tidy_ended}
 use Rattle.bearoff_cli.proofs.OpenedFiles.{handed}
 use Rattle.bearoff_cli.proofs.KeptFiles.{keeps, keeps_stays}

@@ -1,6 +1,5 @@
 -- What was written stays where the output fails to hand it on.
-use Rattle.std.proofs.Common.{Result, Ok, Err, List, [], ◌++◌, ℕ, Option}
-use Rattle.std.specs.Prelude.{OnErr}
+use Rattle.std.proofs.Common.{Result, Ok, Err, List, [], ◌++◌, ℕ, Option, OnErr}
 use Rattle.std.specs.Io.KnownBytes.{Appends, Keeps}
 use Rattle.std.proofs.lemmas.List.{append-nil}
 use Rattle.db_layout.specs.Writes.{AppendsPart}

@@ -1,5 +1,5 @@
 -- The replies over bytes that were accepted.
-use Rattle.bearoff_cli.proofs.CommandFaults.{run_answer, run_turns}
+use Rattle.bearoff_cli.proofs.StoppedRuns.{run_answer, run_turns}
 use Rattle.epc_query.specs.Kinds.{book_as}
 use Rattle.bearoff_cli.proofs.kinds.answer.Goals as goal
 
@@ -16,6 +16,6 @@ pub returns-in-Err-clause-cause : goal.returns-in-Err-clause-cause
 returns-in-Err-clause-cause g c = rw c.from.ensures (run_answer c.handed_on.result)
 
 pub returns-in-Err-clause-turns : goal.returns-in-Err-clause-turns
-returns-in-Err-clause-turns g c given told =
-    rw c.from.ensures (run_turns given _ c.handed_on.result
-    (c.handed_on.ensures.used 1099511627776 given _ (c.in-Err.ensures.used given told)))
+returns-in-Err-clause-turns g c =
+    rw c.from.ensures (run_turns _ _ c.handed_on.result (λ given told.
+    c.handed_on.ensures.used 1099511627776 given _ (c.in-Err.ensures.used given told)))

@@ -1,9 +1,9 @@
 -- Each line was written after those before it.
 use Rattle.std.proofs.Common.{◌≡◌, suc, add-one, arith, rules, sym}
 use Rattle.db_layout.proofs.Known.{on-error}
-use Rattle.race_model.specs.Files.{bound_of}
+use Rattle.race_model.specs.Prelude.{bound_of}
 use Rattle.bearoff_cli.specs.FileAnswers.{WritesLevels}
-use Rattle.bearoff_cli.proofs.Levels.{next_level, levels_then_kept}
+use Rattle.bearoff_cli.proofs.OpenedFiles.{next_level, levels_then_kept}
 use Rattle.bearoff_cli.proofs.StoppedRuns.{levels_part, levels_and_part}
 use Rattle.bearoff_cli.proofs.kinds.write_levels.Given.{Over}
 use Rattle.bearoff_cli.proofs.kinds.write_levels.Goals.{After-flush, else-loop-pips-test}
