@@ -22,7 +22,7 @@
 
 use certificate::check;
 use db_reader::{Paged, SliceSource, Table};
-use epc_query::{Answers, Database, Text, run_lines};
+use epc_query::{Answers, Opened, Text, run_lines};
 use home_board::OLD_BOUND;
 use legal_plays::{Roll, results};
 use lines::{Counter, Order, Question, lines_of};
@@ -166,7 +166,7 @@ fn report_bytes<R: Print + Clock>(
 ) -> io::Result<()> {
     let ranks = RankTable::new();
     let start = Instant::now(rt)?;
-    match Database::open(bytes, &ranks) {
+    match Opened::open(bytes, &ranks) {
         Ok(mut database) => {
             let taken = start.elapsed(rt)?.as_micros();
             match request.work {
@@ -199,7 +199,7 @@ fn report_table<R: Print + Clock, T: Table + Drop>(
 }
 
 /// Answers lines five times, and says how many a second in the fastest run.
-fn report_lines<R: Print + Clock, A: Answers<12288>>(
+fn report_lines<R: Print + Clock, A: Answers>(
     rt: &R,
     alloc: Global,
     request: Request,

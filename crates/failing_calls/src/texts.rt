@@ -2,8 +2,8 @@
 use crate::inputs::{INPUT, REPLIES};
 use crate::wrong::{Wrong, database};
 use certificate::Checked;
-use db_layout::trial::{RefuseAt, WriteRefusal};
 use db_layout::{Header, write_header, write_record};
+use db_reader::refused_writes::{RefuseAt, WriteRefusal};
 use db_reader::{Table, Whole};
 use epc_query::{Choice, Reply, answer_line, audit_level, run, write_level, write_reply};
 use fixed_fraction::{Scaled, Spread, WHOLE, mean};

@@ -5,8 +5,8 @@
 //! their calls are in `failing_calls`.
 use crate::given::{accepted, answers, database, put};
 use db_reader::Whole;
-use fixed_fraction::Scaled;
-use query_text::{Number, Text, put_loss};
+use fixed_fraction::{Scaled, WideFraction, mean};
+use query_text::{Text, put_loss};
 use std::test::Fail;
 
 /// Inputs to the database of 8 pips, what is written of each, and how many lines it has.
@@ -121,7 +121,7 @@ fn numbers_of_one_and_two_parts(rt: HostRuntime) -> Result<(), Fail> {
     ] {
         let mut text = Text::new();
         let loss = Scaled::new(numerator).ok_or("over 22 rolls")?;
-        put_loss(&mut text, loss.fraction());
+        put_loss(&mut text, WideFraction::of(mean(loss)));
         assert_eq!(rt; text.as_str(), expected);
     }
     Ok(())

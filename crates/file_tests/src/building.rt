@@ -1,8 +1,8 @@
 //! What the builder writes: the bytes and the means are those of an independent count with exact
 //! numbers. Writers that stop are those of `failing_calls`.
 use crate::given::{WHOLE_BYTES, compact_database, database};
-use db_layout::trial::RefuseAt;
 use db_layout::{COMPACT_VERSION, Header, Kind, RecordView, VERSION};
+use db_reader::refused_writes::RefuseAt;
 use fixed_fraction::{Scaled, WHOLE};
 use home_board::Position;
 use legal_plays::parse_roll;

@@ -1,7 +1,7 @@
 //! In how many calls replies are written, and that they are flushed before the next read.
 use crate::given::{accepted, database};
-use db_layout::trial::RefuseAt;
 use db_reader::Whole;
+use db_reader::refused_writes::RefuseAt;
 use epc_query::{RunFault, run};
 use std::alloc::Global;
 use std::test::Fail;

@@ -8,8 +8,8 @@ use crate::plain_board::{
 use crate::random::{Parts, Random, Takes, add_lines, damage};
 use certificate::{Checked, check_board};
 use db_reader::Whole;
-use epc_query::{Board, BoardText, run, run_lines};
-use home_board::Position;
+use epc_query::{Opened, Text, run, run_lines};
+use fixed_fraction::Wide;
 use legal_plays::Roll;
 use plain_model::legal_positions;
 use ranking::Ranks;
@@ -184,7 +184,7 @@ fn change_writing(random: &mut Random, whole: &PlainBoard<'_>, file: &mut [u8], 
     }
 }
 
-/// .. of a number whose upper part has so many bytes.
+/// Writes a number whose upper part has so many bytes in another way.
 fn rewrite(file: &mut [u8], place: usize, upper_bytes: usize) {
     let lower_place = place.saturating_add(upper_bytes);
     let upper = number_at(file, place, upper_bytes);
@@ -223,7 +223,7 @@ pub(crate) fn compare_lines(
     random: &mut Random,
     ranks: &Ranks,
     checked: &mut Checked<Whole<'_>>,
-    board: &mut Board<'_>,
+    board: &mut Opened<'_>,
 ) -> Result<(), Difference> {
     let mut input = Vec::new(alloc);
     add_lines(random, ranks, 12, &mut input)?;
@@ -239,7 +239,7 @@ pub(crate) fn compare_lines(
     let told = run_lines(
         alloc,
         board,
-        &mut BoardText::new(),
+        &mut Text::new(),
         &mut reader,
         &mut writer,
         1 << 40,
@@ -254,45 +254,55 @@ pub(crate) fn compare_records(
     alloc: Global,
     random: &mut Random,
     whole: &PlainBoard<'_>,
-    board: &Board<'_>,
+    board: &Opened<'_>,
 ) -> Result<(), Difference> {
     let rank = some_rank(random, whole.ranks, whole.bytes);
     let fault = whole.record_fault(alloc, rank)?;
     Difference::Records.unless(fault.is_none())?;
-    let position = whole.position(rank);
-    Difference::Means.unless(mean_of(board, &position) == Some(whole.mean(rank)))?;
-    Difference::Counts.unless(has_counts(board, &position, whole, rank))
+    Difference::Means.unless(has_mean(board, rank, whole.mean(rank)))?;
+    Difference::Counts.unless(has_shares(board, whole, rank))
 }
 
-/// The mean that an opened board says.
-fn mean_of(board: &Board<'_>, position: &Position) -> Option<Number> {
-    if position.pips() > board.bound() {
-        return None;
-    }
-    let mean = board.mean(position)?;
-    Some(Number {
-        upper: mean.upper(),
-        lower: u128::from(mean.lower()),
-    })
-}
-
-/// Whether the counts that an opened board says are those of the record of a rank.
-fn has_counts(board: &Board<'_>, position: &Position, whole: &PlainBoard<'_>, rank: u16) -> bool {
-    if position.pips() > board.bound() {
+/// Whether the mean that an opened board says of the position of a rank is this.
+fn has_mean(opened: &Opened<'_>, rank: u16, mean: Number) -> bool {
+    if rank >= opened.positions() {
         return false;
     }
-    let Some(counts) = board.counts(position) else {
+    let Some(told) = opened.mean(rank) else {
+        return false;
+    };
+    is_number(told, mean)
+}
+
+/// Whether the shares that an opened board says are those of the counts in the record of a rank:
+/// each sequence of so many throws goes on with any throws, to 33 of them.
+fn has_shares(opened: &Opened<'_>, whole: &PlainBoard<'_>, rank: u16) -> bool {
+    if rank >= opened.positions() {
+        return false;
+    }
+    let Some(shares) = opened.shares(rank) else {
         return false;
     };
     for throws in 0..34 {
-        let count = counts[usize::from(throws)];
-        let told = Number {
-            upper: count.upper(),
-            lower: u128::from(count.lower()),
-        };
-        if told != whole.count(rank, throws) {
+        let mut share = whole.count(rank, throws);
+        for _ in throws..33 {
+            let lower = share.lower.wrapping_mul(36);
+            share = Number {
+                upper: share
+                    .upper
+                    .wrapping_mul(36)
+                    .wrapping_add(lower / u128::from(PART)),
+                lower: lower % u128::from(PART),
+            };
+        }
+        if !is_number(shares[usize::from(throws)], share) {
             return false;
         }
     }
     true
+}
+
+/// Whether a number has these parts.
+fn is_number(told: Wide, number: Number) -> bool {
+    u64::try_from(number.lower).is_ok_and(|lower| told == Wide::of_parts(number.upper, lower))
 }

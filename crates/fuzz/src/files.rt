@@ -4,7 +4,7 @@ use crate::random::{Parts, Random, Takes, add_lines, damage};
 use certificate::{CheckFault, Checked, check};
 use db_reader::trial::FailAt;
 use db_reader::{Paged, SliceSource, Table, Whole};
-use epc_query::{Database, RunFault, Text, run, run_lines};
+use epc_query::{Opened, RunFault, Text, run, run_lines};
 use ranking::{RankTable, Ranks};
 use std::alloc::Global;
 
@@ -110,7 +110,7 @@ fn compare_opened(
     replies: &[u8],
 ) -> Result<(), Difference> {
     let ranks = RankTable::new();
-    let Ok(mut database) = Database::open(file, &ranks) else {
+    let Ok(mut database) = Opened::open(file, &ranks) else {
         return Err(Difference::Verdicts);
     };
     let mut written = Vec::new(alloc);

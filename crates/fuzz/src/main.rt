@@ -19,10 +19,10 @@ use crate::files::compare_files;
 use crate::plain::compare_positions;
 use crate::plain_board::{Places, PlainBoard};
 use crate::random::Random;
-use certificate::{Checked, check, check_board};
-use db_layout::BOARD_VERSION;
+use certificate::{Checked, check};
+use db_layout::Kind;
 use db_reader::Whole;
-use epc_query::{Accepted, Board};
+use epc_query::Opened;
 use ranking::{RankTable, Ranks};
 use retrograde::build;
 use std::alloc::Global;
@@ -126,15 +126,15 @@ fn try_rounds(
 }
 
 /// The opened board file in bytes that the checker accepts.
-fn opened<'a>(bytes: &'a [u8], table: &'a RankTable) -> Option<Board<'a>>
+fn opened<'a>(bytes: &'a [u8], table: &'a RankTable) -> Option<Opened<'a>>
     requires { IsRankTable table.now }
 {
-    match check_board(bytes) {
-        Ok(header) => {
-            let (version, bound) = (BOARD_VERSION, header.bound);
-            Some(Board::kept(bytes, Accepted { version, bound }, table))
-        }
-        Err(_) => None,
+    let Ok(opened) = Opened::open(bytes, table) else {
+        return None;
+    };
+    match opened.kind() {
+        Kind::Board => Some(opened),
+        Kind::Database => None,
     }
 }
 
@@ -155,8 +155,8 @@ fn try_boards(
     alloc: Global,
     random: &mut Random,
     checked: &mut Checked<Whole<'_>>,
-    small: &mut Board<'_>,
-    board: &Board<'_>,
+    small: &mut Opened<'_>,
+    board: &Opened<'_>,
     whole: &PlainBoard<'_>,
 ) -> Result<(), Difference> {
     compare_lines(alloc, random, whole.ranks, checked, small)?;

@@ -2,7 +2,7 @@
 ghost use Rattle.std.specs.Prelude.{◌^◌, ◌≤◌, IfSome};
 
 use crate::numbers::Numbers;
-use fixed_fraction::{LongCount, board_share, sum_of};
+use fixed_fraction::{LongCount, board_mean_fraction, sum_of};
 
 /// Which of three numbers each roll leads to.
 fn of_rolls<N: Copy>(given: &Numbers, numbers: [N; 3]) -> [N; 21] {
@@ -43,11 +43,12 @@ pub(crate) fn share(given: &Numbers) -> Option<Numbers> {
         return None;
     }
     let count = long_at(given, k, 1)?;
-    let share = board_share(count, k);
+    let share = count.share(k);
+    let fraction = board_mean_fraction(share);
     let mut told = Numbers::none();
-    told.add_wide(count.share(k));
     told.add_wide(share.numerator());
-    told.add_wide(share.denominator());
+    told.add_wide(fraction.numerator());
+    told.add_wide(fraction.denominator());
     Some(told)
 }
 

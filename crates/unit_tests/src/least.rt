@@ -14,10 +14,16 @@ struct Table {
 impl RankedMeans for Table {
     ghost mean = { λ table. slice_index table.means };
 
+    ghost leading = { λ table. slice_index table.means };
+
     ghost count = { λ table. 64 };
 
     fn is_less(&self, one: u16, other: u16) -> bool {
         self.means[usize::from(one)] < self.means[usize::from(other)]
+    }
+
+    fn leading_bits(&self, rank: u16) -> u64 {
+        u64::from(self.means[usize::from(rank)])
     }
 }
 
