@@ -1,5 +1,5 @@
 /**
- * Exact answers of a proved backgammon bearoff database.
+ * Exact, formally verified bearoff tables for backgammon.
  *
  * A database is the bytes of a file that `bearoff build` writes, or what {@link Bearoff.build} makes. A board file, which
  * has positions to 90 pips, is one too, with greater numbers: each call says where it differs. It is checked once,
@@ -9,7 +9,7 @@
  *
  * Each argument is checked before the module is asked. One of another type, or a list of another length, is a
  * `TypeError`; a number that isn't whole, or is out of the range that is told, or a move that can't be made, a `RangeError`;
- * a text that is no position a `NoRaceError` of `bearoff/notation`; and what the database has no answer to a
+ * a text that is no position a `NotARaceError` of `bearoff/notation`; and what the database has no answer to a
  * {@link BearoffError}, whose `code` is told at each call. Every call on a database that was closed has the
  * code `not-open`. A call that could be refused for several reasons tells the first of these: the first argument that is
  * none of what is taken, `not-open`, `bad-roll`, `too-many` of any position, `over-bound` and `finished` of the first one,
@@ -59,18 +59,21 @@ export interface Fraction {
     readonly denominator: bigint;
 }
 
-/** What `JSON.stringify` writes of a fraction: JSON has no bigint, so each is a text of its digits. */
+/** What `JSON.stringify` writes of an exact number: JSON has no bigint, so each is a text of its digits. */
 export interface FractionText {
     readonly numerator: string;
     readonly denominator: string;
+    readonly value: number;
 }
 
 /**
  * An exact number that a call has answered. `JSON.stringify` takes it, and as a text it is `5/4`, or `3`. In comparisons,
  * sums and sorts it is the double that is nearest to it, so `==` and `===` between two of them ask whether they are one
- * object. TypeScript has no sums of objects: there it is `+mean + 1`, or {@link asNumber}.
+ * object. TypeScript has no sums of objects: there it is `mean.value + 1`.
  */
 export interface Exact extends Fraction {
+    /** The double that is nearest to it. A copy that `postMessage` or `structuredClone` makes has it, and no method. */
+    readonly value: number;
     valueOf(): number;
     toJSON(): FractionText;
     toString(): string;
@@ -106,7 +109,7 @@ export interface Choice {
 }
 
 /** The pip count of a position, 0 to 90, its checkers, 0 to 15, and how many of 15 are borne off. */
-export interface Standing {
+export interface PositionInfo {
     readonly pips: number;
     readonly checkers: number;
     readonly off: number;
@@ -130,7 +133,7 @@ export type RefusalCode =
     | "not-old"
     /** The database has no position of that rank, or fewer than asked from there on. */
     | "no-rank"
-    /** The bytes are no right database: a {@link DamagedError}. */
+    /** The bytes failed verification: a {@link DamagedError}. */
     | "damaged"
     /** There is no memory for the database. */
     | "no-memory"
@@ -138,11 +141,13 @@ export type RefusalCode =
     | "no-module"
     /** The module was stopped by the machine that runs it, and this database answers nothing more. */
     | "trapped"
-    /** A text is no bearoff race: a `NoRaceError` of `bearoff/notation`. */
+    /** A text is no bearoff race: a `NotARaceError` of `bearoff/notation`. */
     | "malformed" | "bar" | "outside" | "contact" | "other-side"
+    /** A text is no match: a `BadMatchError` of `bearoff/matches`, whose code may be `malformed`, too. */
+    | "illegal" | "turn" | "variation"
     /** The module says what no caller of this package can bring about. */
     | "changed"
-    | "short"
+    | "buffer-too-small"
     | "unknown";
 
 /** A call that has no answer. The message says what was asked, and why there is none. */
@@ -153,7 +158,7 @@ export class BearoffError extends Error {
     readonly status: number;
 }
 
-/** Bytes that are no right database. Its `code` is `damaged`. */
+/** The bytes failed verification. Its `code` is `damaged`. */
 export class DamagedError extends BearoffError {
     readonly code: "damaged";
     /** What kind of fault the first one is. */
@@ -184,7 +189,7 @@ export interface Options {
  */
 export function loadModule(): Promise<object>;
 
-/** A fraction as the double that is nearest to it. A `TypeError` where it is none. */
+/** The double that is nearest to a fraction of your own; one that a call answered has it as `value`. A `TypeError` where it is none. */
 export function asNumber(fraction: Fraction): number;
 
 /**
@@ -193,19 +198,16 @@ export function asNumber(fraction: Fraction): number;
  * made of it, as by `map` or `structuredClone`, is a `BigUint64Array` and no more.
  */
 export interface Table extends BigUint64Array {
-    /** How many words of 64 bits a number has, the greatest first: 2, and of a board file 3. */
-    readonly words: number;
-
-    /** What its numbers are over: {@link Bearoff.whole}, or null where each row has a numerator and a denominator. */
-    readonly whole: bigint | null;
+    /** What its numbers are over: {@link Bearoff.denominator}, or null where each row has a numerator and a denominator. */
+    readonly denominator: bigint | null;
 }
 
 /**
  * The numbers of a {@link Table} as doubles, each the nearest: rolls, chances, or effective pip counts. Of another
- * `BigUint64Array` nobody knows what its numbers are, so `whole` has to tell what they are over. A `TypeError` where it is
+ * `BigUint64Array` nobody knows what its numbers are, so `denominator` has to say what they are over. A `TypeError` where it is
  * missing or another one, and where the array isn't made of whole numbers. A million numbers take about a second.
  */
-export function asDoubles(table: BigUint64Array, whole?: bigint): Float64Array;
+export function asDoubles(table: BigUint64Array, denominator?: bigint): Float64Array;
 
 /**
  * A checked database, in a memory of its own: 4 MB and its file, or twice its file where it was built. `close` gives it
@@ -217,7 +219,7 @@ export class Bearoff {
     /**
      * Copies the bytes of a file, checks them and opens it, a board file where its header says so: 0.2 to 0.4 s for 44
      * pips, in which the thread does nothing else, so a page asks in a worker. The bytes stay as they are until the promise
-     * is kept, and may be changed then. A {@link DamagedError} where they are no right database, and `no-memory`. The answer
+     * is kept, and may be changed then. A {@link DamagedError} if they fail verification, and `no-memory`. The answer
      * of a server that has no such file is a `TypeError`.
      */
     static open(bytes: FileBytes, options?: Options): Promise<Bearoff>;
@@ -248,7 +250,7 @@ export class Bearoff {
     readonly version: number;
 
     /** What its chances add up to, and what its whole tables are over: 36n ** 22n, and of a board file 36n ** 33n. */
-    readonly whole: bigint;
+    readonly denominator: bigint;
 
     /** The version of the module, as `1.2.3`. */
     readonly libraryVersion: string;
@@ -274,13 +276,19 @@ export class Bearoff {
      */
     distribution(position: AnyPosition): Exact[];
 
+    /** The variance of the number of rolls, in rolls squared, from a position of the database by the recorded plays. */
+    variance(position: AnyPosition): Exact;
+
+    /** The standard deviation of that number: the square root of its variance. */
+    standardDeviation(position: AnyPosition): number;
+
     /**
      * The chance of being off within a number of rolls, 0 or more, from a position of the database by the recorded plays.
      */
     within(position: AnyPosition, rolls: number): Rounded;
 
     /** What any position of at most 15 checkers stands at. Refused as `too-many`. */
-    standing(position: AnyPosition): Standing;
+    positionInfo(position: AnyPosition): PositionInfo;
 
     /**
      * How many positions are before a position of the database: those of fewer pips, and of as many pips those with the
@@ -338,25 +346,24 @@ export class Bearoff {
 
     /**
      * Whole tables: of `count` ranks from `first` on, or of all from there on, by rising rank. Refused as `no-rank` where
-     * the database has fewer. Each is a copy of the caller's own. Of a board file a number has three words of 64 bits, the
-     * greatest first, in place of two.
+     * the database has fewer. Each is a copy of the caller's own. A number has three words of 64 bits, the greatest first.
      *
      * Positions: six bytes for each.
      */
     positions(first?: number, count?: number): Uint8Array;
 
-    /** Means: two numbers for each, the upper and the lower 64 bits of a numerator over 36^22. Three of a board file. */
+    /** Means: three words for each, those of a numerator over {@link Bearoff.denominator}. */
     means(first?: number, count?: number): Table;
 
     /**
-     * Effective pip counts: five numbers for each. The first two are the upper and the lower 64 bits of the numerator, the
-     * next two those of the denominator, in lowest terms, and the fifth are the thousandths. Seven of a board file.
+     * Effective pip counts: seven words for each, three of the numerator, three of the denominator, in lowest terms, and the
+     * thousandths.
      */
     epcs(first?: number, count?: number): Table;
 
     /**
-     * Distributions: 46 numbers for each, the upper and the lower 64 bits of each of 23 numerators over 36^22. Of a board
-     * file they are 102, three words of each of 34 numerators over 36^33.
+     * Distributions: 102 words for each, three of each of 34 numerators over {@link Bearoff.denominator}. Except
+     * in a board file those over 22 rolls are 0, and {@link asDoubles} leaves them out.
      */
     distributions(first?: number, count?: number): Table;
 

@@ -1,4 +1,4 @@
-// Exact answers of a proved backgammon bearoff database. What each call answers stands in bearoff.d.ts.
+// Exact, formally verified bearoff tables for backgammon. Calls are described in bearoff.d.ts.
 import { readBound, readBytes } from "./checks.js";
 import { Database } from "./database.js";
 import { Fraction, reduced } from "./fractions.js";
@@ -39,12 +39,16 @@ export class Bearoff extends Database {
         return super.distribution(positionOf(position));
     }
 
+    variance(position) {
+        return super.variance(positionOf(position));
+    }
+
     within(position, rolls) {
         return super.within(positionOf(position), rolls);
     }
 
-    standing(position) {
-        return super.standing(positionOf(position));
+    positionInfo(position) {
+        return super.positionInfo(positionOf(position));
     }
 
     rank(position) {
@@ -75,12 +79,12 @@ export class Bearoff extends Database {
         const [one, other] = sidesOf(mine, theirs);
         const [shares, past] = [super.distribution(one), super.distribution(other)];
         // the chance that the other side is not off yet, before or after its throw of each turn
-        let [left, chance] = [this.whole, 0n];
+        let [left, chance] = [this.denominator, 0n];
         shares.forEach(({ numerator }, turn) => {
             const before = left;
             left -= past[turn].numerator;
             chance += numerator * (onRoll === "mine" ? before : left);
         });
-        return new Fraction(...reduced(chance, this.whole * this.whole));
+        return new Fraction(...reduced(chance, this.denominator * this.denominator));
     }
 }

@@ -7,6 +7,9 @@ const MOST_BYTE = 255;
 const MOST_RANK = 65535;
 const MOST_SHOWN = 100;
 
+// A stream that gives nothing may do so without an end.
+const MOST_EMPTY_PARTS = 1000;
+
 // How many characters a text may have that says a position, as a reader or another program has written it: many times as
 // many as any such text. That is looked at before anything else is done with it.
 export const MOST_TEXT = 1000;
@@ -118,23 +121,23 @@ const isBuffer = (value) => ["[object ArrayBuffer]", "[object SharedArrayBuffer]
 
 // What a stream gives, until it ends or has more bytes than any right file.
 async function readStream(stream) {
-    const [reader, parts] = [stream.getReader(), []];
-    let length = 0;
-    while (length <= MOST_FILE_BYTES) {
-        const { done, value } = await reader.read();
-        if (done) break;
-        if (!(value instanceof Uint8Array)) throw new TypeError(`a file is read as bytes, and not as ${named(value)}`);
-        parts.push(value);
-        length += value.length;
+    const [reader, bytes] = [stream.getReader(), new Uint8Array(MOST_FILE_BYTES + 1)];
+    let [length, empty] = [0, 0];
+    try {
+        while (length < bytes.length) {
+            const { done, value } = await reader.read();
+            if (done) break;
+            if (!(value instanceof Uint8Array)) throw new TypeError(`a file is read as bytes, and not as ${named(value)}`);
+            empty += value.length === 0;
+            if (empty > MOST_EMPTY_PARTS) throw new TypeError(`the stream of the file has more than ${MOST_EMPTY_PARTS} empty parts`);
+            const part = value.subarray(0, bytes.length - length);
+            bytes.set(part, length);
+            length += part.length;
+        }
+    } finally {
+        reader.cancel().catch(() => {}); // nobody waits for the rest
     }
-    reader.cancel().catch(() => {}); // nobody waits for the rest
-    const bytes = new Uint8Array(length);
-    let place = 0;
-    for (const part of parts) {
-        bytes.set(part, place);
-        place += part.length;
-    }
-    return bytes;
+    return bytes.subarray(0, length);
 }
 
 // The bytes of a file: those of a buffer, those that a view of one shows, or what a blob or the answer of a server has. Of

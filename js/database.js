@@ -5,12 +5,8 @@ import {
 import { Engine, OUTPUT_BYTES } from "./engine.js";
 import { BearoffError, refusal } from "./errors.js";
 import { Fraction, reduced, Rounded } from "./fractions.js";
-import { BOARD } from "./kinds.js";
+import { BOARD, SHARES, WORDS } from "./kinds.js";
 import { Table } from "./numbers.js";
-
-// How many words of 64 bits the module's numbers have, and how many rolls its shares are of.
-const WORDS = 3;
-const SHARES = 34;
 
 // How many bytes the elements of the module's tables have, and a result of a roll.
 const POSITION_BYTES = 6;
@@ -19,24 +15,6 @@ const EPC_BYTES = 16 * WORDS + 8;
 const DISTRIBUTION_BYTES = 8 * WORDS * SHARES;
 const RESULT_BYTES = 8 + 16 * WORDS;
 const MOST_RESULTS = 127;
-
-// The places of the lower two words of so many numbers, one after another.
-const lowerWords = (numbers) =>
-    Array.from({ length: numbers }, (_, number) => [WORDS * number + 1, WORDS * number + 2]).flat();
-
-// Of a table of rows of so many bytes the words at some places of each row, of 64 bits each.
-function wordsAt(table, each, places) {
-    const [from, rows] = [new Uint32Array(table.buffer), table.length / each];
-    const kept = new Uint32Array(2 * rows * places.length);
-    for (let row = 0, at = 0; row < rows; row++) {
-        const start = row * (each / 4);
-        for (const place of places) {
-            kept[at++] = from[start + 2 * place];
-            kept[at++] = from[start + 2 * place + 1];
-        }
-    }
-    return new Uint8Array(kept.buffer);
-}
 
 // The database, of a kind, of the file that is put where files lie. Where it is refused the instance waits for another.
 function opened(Kind, engine, put) {
@@ -103,8 +81,8 @@ export class Database {
         return this.#count;
     }
 
-    get whole() {
-        return this.#kind.whole;
+    get denominator() {
+        return this.#kind.denominator;
     }
 
     get version() {
@@ -128,28 +106,39 @@ export class Database {
     wastage(position) {
         const counts = readPosition(position);
         const { numerator, denominator, thousandths } = this.#rounded("wastage", "bearoff_epc", counts);
-        const { pips } = this.standing(counts);
+        const { pips } = this.positionInfo(counts);
         return new Rounded(numerator - BigInt(pips) * denominator, denominator, thousandths - 1000 * pips);
     }
 
     distribution(position) {
         const engine = this.#askOf("distribution", "bearoff_distribution", position);
         return Array.from({ length: this.#kind.rolls + 1 },
-            (_, share) => new Fraction(engine.numeral(engine.output + MEAN_BYTES * share), this.whole));
+            (_, share) => new Fraction(engine.numeral(engine.output + MEAN_BYTES * share), this.denominator));
+    }
+
+    variance(position) {
+        const shares = this.distribution(position);
+        const [mean, squares] = [1n, 2n].map((power) =>
+            shares.reduce((sum, { numerator }, rolls) => sum + BigInt(rolls) ** power * numerator, 0n));
+        return new Fraction(...reduced(squares * this.denominator - mean ** 2n, this.denominator ** 2n));
+    }
+
+    standardDeviation(position) {
+        return Math.sqrt(this.variance(position).value);
     }
 
     within(position, rolls) {
         const [counts, most] = [readPosition(position), readRolls(rolls)];
         const engine = this.#askOf("within", "bearoff_within", counts, most);
-        const chance = reduced(engine.numeral(engine.output), this.whole);
+        const chance = reduced(engine.numeral(engine.output), this.denominator);
         return new Rounded(...chance, engine.number(engine.output + MEAN_BYTES));
     }
 
-    standing(position) {
+    positionInfo(position) {
         const counts = readPosition(position);
-        const engine = this.#instance("standing");
+        const engine = this.#instance("positionInfo");
         engine.setCounts(engine.position, counts);
-        engine.ask(`standing ${counts}`, "bearoff_standing", engine.atPosition, engine.atOutput);
+        engine.ask(`position info ${counts}`, "bearoff_position_info", engine.atPosition, engine.atOutput);
         const [pips, checkers, off] = engine.bytes.subarray(engine.output, engine.output + 3);
         return { pips, checkers, off };
     }
@@ -228,17 +217,16 @@ export class Database {
     }
 
     means(first = 0, count = undefined) {
-        return this.#table("bearoff_listed_means", MEAN_BYTES, lowerWords(1), first, count);
+        return new Table(this.#listed("bearoff_listed_means", MEAN_BYTES, first, count), this.denominator);
     }
 
     epcs(first = 0, count = undefined) {
-        const places = [...lowerWords(2), 2 * WORDS];
-        return this.#table("bearoff_listed_epcs", EPC_BYTES, places, first, count, null);
+        return new Table(this.#listed("bearoff_listed_epcs", EPC_BYTES, first, count), null);
     }
 
     distributions(first = 0, count = undefined) {
-        const places = lowerWords(this.#kind.rolls + 1);
-        return this.#table("bearoff_listed_distributions", DISTRIBUTION_BYTES, places, first, count);
+        const listed = this.#listed("bearoff_listed_distributions", DISTRIBUTION_BYTES, first, count);
+        return new Table(listed, this.denominator, this.#kind.rolls + 1);
     }
 
     bytes() {
@@ -270,14 +258,6 @@ export class Database {
     #rounded(asked, name, position) {
         const engine = this.#askOf(asked, name, position);
         return engine.roundedAt(engine.output);
-    }
-
-    // The numbers of a range of ranks, which are over a whole, or fractions where that is null. Of a database the words at
-    // some places of each row are enough, since the other ones are all 0.
-    #table(name, each, places, first, count, whole = this.whole) {
-        const listed = this.#listed(name, each, first, count);
-        const { buffer, byteLength } = this.#kind === BOARD ? listed : wordsAt(listed, each, places);
-        return new Table(buffer, 0, byteLength / 8, this.#kind.words, whole);
     }
 
     // A range of ranks that the open database has: the first, and how many.

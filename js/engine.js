@@ -2,7 +2,7 @@
 // module; what is done is to hand over bytes and to read what came back.
 import { BearoffError, DamagedError, refusal } from "./errors.js";
 import { Fraction, Rounded } from "./fractions.js";
-import { BOARD_VERSION, DATABASE, kindOf, LAST_DATABASE_BOUND, MOST_FILE_BYTES } from "./kinds.js";
+import { BOARD_VERSION, DATABASE, kindOf, LAST_DATABASE_BOUND, MOST_FILE_BYTES, WORDS } from "./kinds.js";
 
 const PAGE_BYTES = 65536;
 const LINE_BYTES = 256; // more than any line that asks something
@@ -19,9 +19,6 @@ const OLD_FILE_BYTES = 11209796;
 const BOARD_FILE_BYTES = 14643664;
 const UPGRADE_BYTES = 7608420;
 const LAST_OLD_BOUND = 44;
-
-// How many words of 64 bits a number has that a call answers.
-const WORDS = 3;
 
 const ENCODER = new TextEncoder();
 const DECODER = new TextDecoder();

@@ -8,13 +8,13 @@ const MEANINGS = new Map([
     [4, ["over-bound", "more pips than the bound"]],
     [5, ["finished", "no checker is left"]],
     [6, ["not-legal", "the roll doesn't lead there"]],
-    [7, ["changed", "the bytes were changed since they were checked"]],
-    [8, ["short", "the room is too small"]],
+    [7, ["changed", "the bytes changed since they were verified"]],
+    [8, ["buffer-too-small", "the buffer is too small"]],
     [9, ["not-old", "the file is of version 2 already"]],
     [10, ["no-rank", "the database has no such rank"]],
 ]);
 
-// The first faults of bytes that are no right database.
+// The first faults of bytes that fail verification.
 const FAULT_NAMES = new Map([
     [16, "too-short"],
     [17, "bad-magic"],
@@ -44,7 +44,7 @@ export class BearoffError extends Error {
 
 export class DamagedError extends BearoffError {
     constructor(status, line) {
-        super("damaged", `no right database: ${line}`, { status });
+        super("damaged", `not a valid database: ${line}`, { status });
         this.fault = FAULT_NAMES.get(status) || "";
         this.line = line;
     }

@@ -1,20 +1,21 @@
 // Exact numbers as the calls answer them. JSON has no bigint: there each is a text of its digits. As a text a number is
 // written as 5/4, and a whole one as 3. Where JavaScript wants a number, as in a comparison, a sum or a sort, it is the
-// nearest double.
+// nearest double. That is a property, too, which a structured clone has where it loses the methods.
 import { asNumber } from "./numbers.js";
 
 export class Fraction {
     constructor(numerator, denominator) {
         this.numerator = numerator;
         this.denominator = denominator;
+        this.value = asNumber(this);
     }
 
     toJSON() {
-        return { numerator: `${this.numerator}`, denominator: `${this.denominator}` };
+        return { ...this, numerator: `${this.numerator}`, denominator: `${this.denominator}` };
     }
 
     valueOf() {
-        return asNumber(this);
+        return this.value;
     }
 
     toString() {
@@ -33,9 +34,5 @@ export class Rounded extends Fraction {
     constructor(numerator, denominator, thousandths) {
         super(numerator, denominator);
         this.thousandths = thousandths;
-    }
-
-    toJSON() {
-        return { ...super.toJSON(), thousandths: this.thousandths };
     }
 }

@@ -22,7 +22,7 @@ export function sidesOf(mine, theirs) {
     if (theirs !== undefined && theirs !== null) return [positionOf(mine), positionOf(theirs)];
     const race = typeof mine === "string" ? read(mine) : mine;
     if (!has(race, "theirs") || race.theirs === null) {
-        throw new TypeError("the position of the other player isn't told, by a second one or an XGID");
+        throw new TypeError("the opponent's position is missing, as a second one or in an XGID");
     }
     return [positionOf(race), positionOf(race.theirs)];
 }
@@ -31,12 +31,12 @@ export function sidesOf(mine, theirs) {
 export function rollOf(value) {
     if (typeof value === "string") {
         const [, one, other] = (!isTooLong(value) && ROLL.exec(value)) || [];
-        if (one === undefined) throw new TypeError(`a roll is two dice, as in 21 or 2-1, and not ${shown(value)}`);
+        if (one === undefined) throw new TypeError(`a roll is two dice, as in 21 or "2-1", and not ${shown(value)}`);
         return [Number(one), Number(other)];
     }
     if (typeof value !== "number") return readRoll(value);
     if (!Number.isInteger(value) || value < 10 || value > 99) {
-        throw new RangeError(`a roll is two dice, as in 21 or 2-1, and not ${value}`);
+        throw new RangeError(`a roll is two dice, as in 21 or "2-1", and not ${value}`);
     }
     return [Math.floor(value / 10), value % 10];
 }

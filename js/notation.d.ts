@@ -3,7 +3,7 @@
  * needs the WebAssembly module.
  *
  * A text that is no bearoff race, that can't be read without a guess, or that has more than 1000 characters, is refused as
- * a {@link NoRaceError}; what is no text is a `TypeError`.
+ * a {@link NotARaceError}; what is no text is a `TypeError`.
  */
 import { BearoffError } from "./bearoff.js";
 import type { Counts, Position, Roll } from "./bearoff.js";
@@ -51,13 +51,14 @@ export type NoRaceCode =
     | "other-side";
 
 /** A text that is no bearoff race, or a race that can't be written. The message says what is wrong, and of which text. */
-export class NoRaceError extends BearoffError {
+export class NotARaceError extends BearoffError {
     readonly code: NoRaceCode;
 }
 
 /**
  * The race of an XGID, of a Position ID with or without a Match ID, or of six counts, that of the ace point first. Between
  * the counts stand commas, semicolons, slashes, hyphens or spaces, the same throughout, and around them may be brackets.
+ * What an XGID or a Match ID says of the cube, the score and the match is not asked.
  */
 export function read(text: string): Race;
 
@@ -75,7 +76,7 @@ export function fromGnubg(text: string): Race;
 
 /**
  * The XGID of a race, of a money game without Jacoby and beavers and with the cube in the middle. Where the race doesn't
- * tell who is on roll, that player is put at the bottom. A {@link NoRaceError} where a side has more than 15 checkers, the
+ * tell who is on roll, that player is put at the bottom. A {@link NotARaceError} where a side has more than 15 checkers, the
  * other player's checkers aren't told, or the dice are none.
  */
 export function toXgid(race: GivenRace): string;

@@ -1,6 +1,7 @@
 // Exact numbers as doubles, each the nearest, and the tables that hold many of them.
 
 import { readNumbers } from "./checks.js";
+import { SHARES, WORDS } from "./kinds.js";
 
 // Under this a double may have fewer bits; no number of a database but 0 is so small.
 const SMALLEST = 2 ** -900;
@@ -23,88 +24,95 @@ function nearest(numerator, denominator) {
 
 export const asNumber = (fraction) => nearest(...readNumbers(fraction));
 
-// A table as a database hands it out, which knows what its numbers are: numerators over a whole, or, where that is null,
-// a numerator, a denominator and thousandths in each row. A part of it that cuts no number knows it too.
+// How many words an element has that becomes a double: a numerator, or a fraction with its thousandths.
+const wordsOf = (denominator) => (denominator === null ? 2 * WORDS + 1 : WORDS);
+
+// A table as a database returns it, which knows what its numbers are: numerators over a denominator, or, if that is null,
+// a numerator, a denominator and thousandths in each row. A part of it that cuts no number knows it too. In rows of
+// distributions the first shares count, and the others are 0.
 export class Table extends BigUint64Array {
     static get [Symbol.species]() {
         return BigUint64Array;
     }
 
-    #words;
+    #denominator;
 
-    #whole;
+    #shares;
 
-    constructor(buffer, start, length, words, whole) {
-        super(buffer, start, length);
-        this.#words = words;
-        this.#whole = whole;
+    #place;
+
+    constructor({ buffer, byteOffset, byteLength }, denominator, shares = SHARES, place = 0) {
+        super(buffer, byteOffset, byteLength / 8);
+        this.#denominator = denominator;
+        this.#shares = shares;
+        this.#place = place;
     }
 
-    get words() {
-        return this.#words;
-    }
-
-    get whole() {
-        return this.#whole;
+    get denominator() {
+        return this.#denominator;
     }
 
     subarray(...range) {
-        const part = super.subarray(...range);
-        return this.#cutsNone(part) ? this.#like(part) : part;
+        const view = super.subarray(...range);
+        return this.#part(view, view);
     }
 
     slice(...range) {
-        const part = super.slice(...range);
-        return this.#cutsNone(super.subarray(...range)) ? this.#like(part) : part;
+        return this.#part(super.slice(...range), super.subarray(...range));
     }
 
-    // Whether a view of a part of it begins and ends between two numbers.
-    #cutsNone(part) {
-        const each = wordsOf(this.#words, this.#whole);
-        return (part.byteOffset - this.byteOffset) % (8 * each) === 0 && part.length % each === 0;
+    // A part, or a copy of it, which is a table if the view of it begins and ends between two numbers.
+    #part(part, view) {
+        const [each, before] = [wordsOf(this.#denominator), (view.byteOffset - this.byteOffset) / 8];
+        if (before % each !== 0 || view.length % each !== 0) return part;
+        return new Table(part, this.#denominator, this.#shares, this.#place + before / each);
     }
 
-    #like({ buffer, byteOffset, length }) {
-        return new Table(buffer, byteOffset, length, this.#words, this.#whole);
+    // Whether a number counts.
+    counts(number) {
+        return (this.#place + number) % SHARES < this.#shares;
     }
 }
 
-// How many words a number of a table has, or a row of fractions.
-const wordsOf = (words, whole) => (whole === null ? 2 * words + 1 : words);
-
-// How many words of 64 bits a numerator over each whole has.
-const WORDS = new Map([[36n ** 22n, 2], [36n ** 33n, 3]]);
-
-// What the numbers of a table are: how many words each has, and their whole. A table knows it; of another array it is told.
-function kindOf(table, whole) {
+// What a table's numbers are over. A table knows it; for another array the caller passes it.
+function wholeOf(table, denominator) {
     if (!(table instanceof BigUint64Array)) throw new TypeError("a table is a BigUint64Array");
     if (table instanceof Table) {
-        if (whole === undefined || whole === table.whole) return table;
-        throw new TypeError("the numbers of this table are over another whole");
+        if (denominator === undefined || denominator === table.denominator) return table.denominator;
+        throw new TypeError("the numbers of this table have another denominator");
     }
-    if (whole === undefined) {
-        throw new TypeError("an array that is no table of a database, nor a part of one that cuts no number, wants the whole");
+    if (denominator === undefined) {
+        throw new TypeError("this array doesn't know its denominator; pass it, for example database.denominator");
     }
-    const words = WORDS.get(whole);
-    if (!words) throw new TypeError("numerators are over 36n ** 22n, or over 36n ** 33n");
-    if (table.length % words !== 0) {
-        throw new TypeError(`a numerator over 36^${11 * words} has ${words} words, and this array ${table.length}`);
+    if (denominator !== 36n ** 22n && denominator !== 36n ** 33n) {
+        throw new TypeError("numerators are over 36n ** 22n, or over 36n ** 33n");
     }
-    return { words, whole };
+    if (table.length % WORDS !== 0) {
+        throw new TypeError(`a numerator has ${WORDS} words, and this array ${table.length}`);
+    }
+    return denominator;
 }
 
 // The numbers of a table, each in words of 64 bits, the greatest first.
-export function asDoubles(table, whole = undefined) {
-    const kind = kindOf(table, whole);
-    const each = wordsOf(kind.words, kind.whole);
+export function asDoubles(table, denominator = undefined) {
+    const whole = wholeOf(table, denominator);
+    const each = wordsOf(whole);
+    const halves = new Uint32Array(table.buffer, table.byteOffset, 2 * table.length);
+    // the words before the first that is not 0 are passed over, since a bigint of each would take longer
     const numberAt = (place) => {
-        let number = table[place];
-        for (let word = 1; word < kind.words; word++) number = (number << 64n) | table[place + word];
+        const end = place + WORDS;
+        let first = place;
+        while (first < end - 1 && (halves[2 * first] | halves[2 * first + 1]) === 0) first++;
+        let number = table[first];
+        while (++first < end) number = (number << 64n) | table[first];
         return number;
     };
-    return Float64Array.from({ length: table.length / each }, (_, row) => {
+    const [doubles, isTable] = [new Float64Array(table.length / each), table instanceof Table];
+    let count = 0;
+    for (let row = 0; row < doubles.length; row++) {
+        if (isTable && !table.counts(row)) continue;
         const numerator = numberAt(each * row);
-        if (numerator === 0n) return 0;
-        return nearest(numerator, kind.whole ?? numberAt(each * row + kind.words));
-    });
+        doubles[count++] = numerator === 0n ? 0 : nearest(numerator, whole ?? numberAt(each * row + WORDS));
+    }
+    return doubles.slice(0, count);
 }

@@ -1,9 +1,8 @@
-// The page's side of the worker, and a bar that moves on while a step of it is under way. The module
-// says nothing while it builds or checks, so each step says where it begins, where it ends, and how
-// many milliseconds it usually takes.
+// The page's side of the worker, and a bar for its steps, which say how long they take.
+import { needsMore } from "./databases.js";
 
 // What went wrong in the worker.
-export class Failure extends Error {
+class Failure extends Error {
     constructor({ message, status, line }) {
         super(message);
         this.status = status;
@@ -64,10 +63,33 @@ export class Client {
     }
 }
 
-// How far a step is after so many milliseconds: two thirds of it in its usual time, and never
-// whole.
+// How far a step is after some milliseconds: two thirds in its usual time, never whole.
 export function reached({ from, until, usual }, passed) {
     return from + (until - from) * (1 - Math.exp(-passed / usual));
+}
+
+// What the two workers are at; that of the second one is told where something needs it.
+export class Workers {
+    constructor(script, bar, session) {
+        Object.assign(this, { script, bar, session, steps: { first: null, second: null } });
+    }
+
+    tell({ work: { loads, isWidening } } = this.session.state) {
+        const second = isWidening && needsMore(this.session.state) ? this.steps.second : null;
+        this.bar.show(loads > 0 ? this.steps.first : second);
+    }
+
+    make(isSecond) {
+        const name = isSecond ? "second" : "first";
+        this.begin("Starting\u2026", name);
+        this.tell();
+        return new Client(this.script, (step) => {
+            this.steps[this.session.second ? name : "first"] = step;
+            this.tell();
+        });
+    }
+
+    begin(text, name = "first") { this.steps[name] = { from: 0.02, until: 0.1, usual: 200, text }; }
 }
 
 export class Bar {

@@ -1,6 +1,4 @@
-// The addresses that one went through: each change is a step, and Back undoes it. What follows a
-// change at once, as under a key that is held, belongs to the same step, since browsers take only
-// so many changes of an address in a while.
+// The history: a change is a step for Back; what follows at once belongs to it.
 
 const ONE_STEP = 250; // milliseconds
 
@@ -44,8 +42,7 @@ export class Past {
         this.written = this.window.location.hash;
     }
 
-    // Whether the address was changed by something else than the page: by Back, Forward, or a
-    // reader who typed one.
+    // Whether Back, Forward or the reader changed the address.
     isElsewhere() {
         this.written = this.window.location.hash;
         if (this.written === this.current) return false;

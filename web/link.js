@@ -1,12 +1,11 @@
-// What the address keeps: the positions, their captions, and how the page stands; and what a reader
-// types as a position. Captions are text.
+// The address: positions, captions and screen; and positions that a reader types.
 import { isTooLong, MOST_TEXT } from "../js/checks.js";
-import { NoRaceError, read } from "../js/notation.js";
+import { NotARaceError, read } from "../js/notation.js";
+import { readLessons } from "./lesson/text.js";
 import { FIRST, GREATEST, MOST_CHECKERS, readPoints, sumOf } from "./points.js";
-import { ASKED, ESTIMATED, readDrill, readDue, readList, readSeed, writeDue } from "./questions.js";
+import { ASKED, ESTIMATED, readDrill, readDue, readList, readSeed, writeDue } from "./question/questions.js";
+import { CHOSEN, LEVELS, themeOf } from "./question/themes.js";
 import { oneLine } from "./texts.js";
-import { CHOSEN, LEVELS, themeOf } from "./themes.js";
-import { readLessons } from "./trainer.js";
 
 // The screens besides the board that an address names by one word; without any word it is the first.
 export const PAGES = ["home", "games", "teacher"];
@@ -14,13 +13,11 @@ export const PAGES = ["home", "games", "teacher"];
 export const MOST_KEPT = 10;
 export const LONGEST_CAPTION = 200;
 
-// How many characters an address may have behind its hash: a lesson of the greatest length, written
-// as addresses are, and more.
+// The most characters behind the hash: a lesson of the greatest length, and more.
 const MOST_LINK = 4_000_000;
 export const START = [2, 2, 2, 2, 2, 2];
 
-// Six counts as a reader types them, with commas, spaces or full stops between them; or, in words,
-// why they are none.
+// Six counts as typed, or why they are none.
 export function readCounts(typed) {
     const separator = /^[\d.]*$/.test(typed.trim()) ? /\.+/ : /[\s,;]+/;
     const counts = typed.trim().split(separator).filter((count) => count !== "");
@@ -38,10 +35,8 @@ export function readCounts(typed) {
         : { points };
 }
 
-// What a reader types or pastes: six counts, an XGID, or an ID of GNU Backgammon. The checkers of
-// the player on roll, and the roll and those of the other side where the text has them; or, in
-// words, why there are none.
-export function readTyped(typed) {
+// A typed position: six counts, an XGID or a GNU ID, with its roll and other side; or a fault.
+function readRace(typed) {
     if (isTooLong(typed)) {
         return { fault: `A position has at most ${MOST_TEXT} characters, and this text has more.` };
     }
@@ -51,11 +46,18 @@ export function readTyped(typed) {
         const { mine, theirs, dice } = read(typed);
         return { points: mine, roll: dice, theirs };
     } catch (error) {
-        if (!(error instanceof NoRaceError)) throw error;
+        if (!(error instanceof NotARaceError)) throw error;
         // And not counts with a letter among them
         const isId = /[a-z]{3}|:|^\s*[a-z\d+/]{10}/i.test(typed);
         return isId ? { fault: `This is no bearoff race: ${error.message}` } : counts;
     }
+}
+
+// A typed position, whose roll may stand behind it.
+export function readTyped(typed) {
+    const [, front, ...dice] = /^(.*\S)\s+([1-6])-?([1-6])\s*$/.exec(isTooLong(typed) ? "" : typed) || [];
+    const race = front && readRace(front);
+    return race?.points ? { ...race, roll: dice.map(Number).sort((one, other) => other - one) } : readRace(typed);
 }
 
 // The address of a drill, or of one of its questions.
@@ -67,10 +69,8 @@ function faultsOf(words, drill) {
     const isNone = (pattern) => (value) => !pattern.test(value);
     const given = words.get("drill");
     const checks = [
-        ["at", (value) => !readPoints(value),
-            `a position is six counts of at most ${MOST_CHECKERS} checkers`],
-        ["p", (value) => !readPoints(value),
-            `a position is six counts of at most ${MOST_CHECKERS} checkers`],
+        ...["at", "p"].map((name) => [name, (value) => !readPoints(value),
+            `a position is six counts of at most ${MOST_CHECKERS} checkers`]),
         ["roll", isNone(/^[1-6]{2}$/), "a roll is two digits from 1 to 6"],
         ["guess", isNone(/^1$/), "it is 1 or left out"],
         ["pips", isNone(/^(44|58|90)$/), `the databases have ${FIRST} or ${GREATEST} pips`],
@@ -86,11 +86,9 @@ function faultsOf(words, drill) {
             "what comes back are six counts of each, and a roll where plays are asked"],
         ["list", (value) => readList(value, words.get("ask") ?? "play") === null,
             "a list has six counts of each question, and a roll where plays are asked"],
-        ["question", isNone(/^[1-9]\d?$/), "it is the number of one"],
         ["estimate", (value) => !ESTIMATED.includes(value),
             `what is estimated is ${ESTIMATED.join(", ")}`],
-        ["lesson", isNone(/^[1-9]\d?$/), "it is the number of one"],
-        ["step", isNone(/^[1-9]\d?$/), "it is the number of one"],
+        ...["question", "lesson", "step"].map((name) => [name, isNone(/^[1-9]\d?$/), "it is the number of one"]),
     ];
     const faults = checks.flatMap(([name, isWrong, what]) => words.getAll(name).filter(isWrong)
         .map((value) =>
@@ -110,8 +108,7 @@ function faultsOf(words, drill) {
     return faults;
 }
 
-// The state that an address states. What can't be read there is left out, with a sentence that says
-// so, and so is a position that stood before.
+// The state of an address; what can't be read is left out, with a sentence.
 export function readLink(hash) {
     if (hash.length > MOST_LINK) {
         return { ...readLink(""), faults: ["The link is too long, and was left out."] };

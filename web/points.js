@@ -31,3 +31,5 @@ export const ROLLS = Array.from({ length: 6 }, (_, high) =>
     Array.from({ length: high + 1 }, (_, low) => [high + 1, low + 1])).flat();
 
 export const sameRoll = (one, other) => Boolean(one && other && one.join() === other.join());
+
+export const keyOf = (points) => points.join();

@@ -1,8 +1,7 @@
 // Rules that players go by where they choose a play, or estimate a race, without computing.
 import { pipsOf, sumOf } from "./points.js";
 
-// Whether a play loses so much that it is told in thousandths of a roll; what loses less is no
-// mistake, and isn't asked once more.
+// Whether a play is a mistake: it loses at least half a thousandth of a roll.
 export const isMiss = ({ loss }) => loss > 0n;
 
 // The plays of which some number is least.
@@ -13,31 +12,25 @@ function leastBy(plays, numberOf) {
 
 const mostOff = (plays) => leastBy(plays, ({ to }) => sumOf(to));
 
-// What Tom Keith's count adds to the pips for the faults of a shape (2004): 2 for each checker over
-// one on the ace point, 1 over one on the deuce point, 1 over three on the three point, and 1 for
-// each of the three high points that is empty.
+// Tom Keith's additions (2004) for shape: ace, deuce, three, and empty high points.
 const over = (count, most) => Math.max(0, count - most);
-export const additionsOf = ([ace, deuce, three, ...high]) =>
+const additionsOf = ([ace, deuce, three, ...high]) =>
     2 * over(ace, 1) + over(deuce, 1) + over(three, 3)
         + high.filter((count) => count === 0).length;
 
 const mostFilled = (plays) => leastBy(plays, ({ to }) => -to.filter((count) => count > 0).length);
 
-// The plays that a novice chooses from: those that bear off the most checkers, and of these those
-// that fill the most points.
+// Natural plays: they bear off the most, and of these fill the most points.
 export const naturalOf = (plays) => mostFilled(mostOff(plays));
 
-// Three rules that players go by: the natural one; to bear off the most, then to leave the fewest
-// on the ace point, and of such plays to fill the most points; and the fewest pips with what is
-// added for the shape.
+// Three rules of players: natural; fewest on the ace; fewest pips with additions.
 export const RULES = [
     naturalOf,
     (plays) => mostFilled(leastBy(mostOff(plays), ({ to: [ace] }) => ace)),
     (plays) => leastBy(plays, ({ to }) => pipsOf(to) + additionsOf(to)),
 ];
 
-// Rules of thumb for the effective pip count: the name in a lesson, the words, the positions that
-// it is for, with words, and what it says of one, in thousandths of a pip.
+// Rules of thumb for the EPC: name, words, the shapes they are for, and thousandths of a pip.
 const sevens = (points) => 7000 * Math.ceil(sumOf(points) / 2) + 1000;
 const added = (points) => 1000 * (pipsOf(points) + additionsOf(points)) + 8500;
 const anyShape = { isFor: () => true, where: "any shape" };
@@ -59,9 +52,7 @@ export const ESTIMATES = [
     },
 ];
 
-// A rule of one's own adds to the pips six weights: a number, and one for each checker over one on
-// the ace point, over one on the deuce point and over three on the three point, for each high point
-// that is empty, and for each checker. They are whole numbers of halves of a pip.
+// The six weights of one's own rule, in halves of a pip.
 export const OWN = "own";
 export const WEIGHTS = [
     "for the race", "each over one on the ace", "each over one on the deuce",
@@ -92,9 +83,38 @@ export function readWeight(text) {
     return halves <= MOST_WEIGHT ? halves : null;
 }
 
-// How far a rule is off over some positions, each with its effective pip count in thousandths: the
-// mean and the greatest error, and the mean over those that it is for, with how many these are.
-export function measure({ says, isFor }, counted) {
+const FEW = 3; // checkers for which the rules of thumb don't hold
+
+const inHalves = (halves) => `${Math.floor(halves / 2) || (halves === 1 ? "" : 0)}${halves % 2 ? "\u00bd" : ""}`;
+
+// How to estimate at the board: pips point by point, or the greater of two rules as a sum.
+export function reckoned(points, kind) {
+    const [ace, deuce, three, ...high] = points;
+    const pips = pipsOf(points);
+    if (kind === "pips") {
+        return `${points.map((count, place) => count && `${count} \u00d7 ${place + 1}`).filter(Boolean)
+            .reverse().join(" + ") || 0} = ${pips}`;
+    }
+    const isStack = points[0] === sumOf(points);
+    if (!isStack && sumOf(points) <= FEW) return "for so few checkers no rule holds: count their rolls, 8\u2159 pips each";
+    const rest = kind === "wastage" ? -2 * pips : 0;
+    const pair = kind === "wastage" ? ` \u2212 ${pips} pips` : "";
+    if (isStack || sevens(points) > added(points)) {
+        const rolls = Math.ceil(sumOf(points) / 2);
+        return `7 for each of ${rolls} ${rolls === 1 ? "roll" : "rolls"} without a double + 1${pair} = ${inHalves(14 * rolls + 2 + rest)}`;
+    }
+    const empty = high.filter((count) => count === 0).length;
+    const terms = [
+        [kind === "wastage" ? 0 : 2 * pips, "pips"], [17, "for the race"], [4 * over(ace, 1), "over one on the ace"],
+        [2 * over(deuce, 1), "over one on the deuce"], [2 * over(three, 3), "over three on the three"],
+        [2 * empty, "for high gaps"],
+    ].filter(([halves]) => halves > 0);
+    const sum = terms.reduce((all, [halves]) => all + halves, 0);
+    return `${terms.map(([halves, what]) => `${inHalves(halves)} ${what}`).join(" + ")} = ${inHalves(sum)}`;
+}
+
+// The mean and greatest error of a rule over positions, and the mean where it is for.
+function measure({ says, isFor }, counted) {
     let [sum, worst, sumFor, countFor] = [0, 0, 0, 0];
     for (const { points, effective } of counted) {
         const error = Math.abs(says(points) - effective);
@@ -108,6 +128,6 @@ export function measure({ says, isFor }, counted) {
     };
 }
 
-// .. all of them, and the one of these weights.
+// All of them, and the one of these weights.
 export const measured = (counted, weights) => [...ESTIMATES, ownRule(weights)]
     .map((rule) => ({ name: rule.name, words: rule.words, where: rule.where, ...measure(rule, counted) }));

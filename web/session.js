@@ -1,11 +1,13 @@
 // Asks the worker for what the state wants, one question after the other, and loads databases.
-import { FAULTS } from "./texts.js";
-import { GREATEST } from "./points.js";
+import { noReply, received, wanted } from "./asks.js";
 import {
-    dropped, ended, firstBound, loading, notWidened, opened, received, refused, wanted, wantsMore,
-    widened, widening,
-} from "./state/database.js";
-import { answeredBetween, begin, learntBetween } from "./state.js";
+    dropped, ended, firstBound, loading, notWidened, opened, refused, wantsMore, widened, widening,
+} from "./databases.js";
+import { answeredBetween } from "./kept.js";
+import { learntBetween } from "./lesson/state.js";
+import { GREATEST } from "./points.js";
+import { begin, passed } from "./state.js";
+import { FAULTS } from "./texts.js";
 
 // Why a database was not opened, in words.
 function whyNot(failure) {
@@ -15,18 +17,8 @@ function whyNot(failure) {
         : `This didn't work: ${failure.message}.`;
 }
 
-// What stands for the reply to a question that failed.
-function noReply({ kind }, { bound }, refusal) {
-    return {
-        ask: { refusal, status: 0, standing: null, bound }, rolls: [], draw: [],
-        again: { plays: [], answers: [] }, why: null, measure: { count: 0, rows: [] }, fill: [],
-        grade: { rows: [], fault: ["malformed", 1, refusal] }, sheet: { questions: [], key: [] },
-    }[kind];
-}
-
 export class Session {
-    // A session that starts with a link's state; `changed` is called with each state that follows,
-    // and with whether the reader made it.
+    // A session over a link's state; `changed` is told each state, and whether the reader made it.
     constructor(link, changed, lessons) {
         this.state = begin(link, lessons);
         this.changed = changed;
@@ -38,9 +30,7 @@ export class Session {
         this.learn = (state) => state;
     }
 
-    // Starts a worker, which compiles the module and builds the first database: it is at work when
-    // this returns, with a promise of that database. `makeClient` makes a client, and is told
-    // whether it is the second one.
+    // Starts a worker and its first build; `makeClient` is told whether it is the second.
     begin(makeClient, module) {
         this.start = (client, bound) => client.ask({ kind: "start", module, bound });
         this.makeClient = makeClient;
@@ -56,7 +46,7 @@ export class Session {
 
     // A change that the reader made: a function of the state and of what else it is given.
     change(how, ...words) {
-        const next = how(this.state, ...words);
+        const next = how(passed(this.state), ...words);
         const [answer, lesson] = [answeredBetween, learntBetween].map((what) =>
             what(this.state, next));
         const told = answer ? this.remember(next, answer) : next;
@@ -88,8 +78,7 @@ export class Session {
         this.widen();
     }
 
-    // Waits for a database that is made ready. Where it is refused, the one that was open stays so,
-    // and where the worker died, none comes any more.
+    // Waits for a database; one that is refused leaves the open one as it is.
     async open(reply, isOwn) {
         this.become(loading(this.state), false);
         try {
@@ -102,8 +91,7 @@ export class Session {
         await this.ask();
     }
 
-    // Opens a file; the question may be one that is still read. What is built meanwhile isn't
-    // wanted any more.
+    // Opens a file, once it is read; a build under way is given up.
     load(question, lent) {
         if (!this.client) return;
         this.drop();
@@ -113,8 +101,7 @@ export class Session {
         })(), true);
     }
 
-    // Builds the whole board where it is wanted, in a worker of its own: the open database
-    // answers meanwhile, and goes on where this fails.
+    // Builds the whole board in a second worker, while the open database answers.
     async widen() {
         if (!wantsMore(this.state)) return;
         this.become(widening(this.state), false);

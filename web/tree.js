@@ -1,5 +1,4 @@
-// What the page draws, as plain trees: a tag, its attributes, and children that are trees or texts.
-// Nothing here reads markup, so a caption stays a text.
+// What the page draws, as plain trees of tags, attributes and texts.
 
 const SVG = "http://www.w3.org/2000/svg";
 const SVG_TAGS = new Set(
@@ -30,8 +29,7 @@ const given = new WeakMap();
 
 const isSet = (value) => isThere(value) && typeof value !== "function";
 
-// The events for which an element has a listener, once and for good: it does what the element's
-// last tree says.
+// The events that an element listens to, once; its last tree says what it does.
 const listening = new WeakMap();
 
 function listen(element, name) {
@@ -45,8 +43,7 @@ function listen(element, name) {
     });
 }
 
-// Gives an element the attributes of a tree, and takes those that only its last tree had. An
-// attribute that is a function listens; one that is false or null is left out.
+// Sets a tree's attributes and drops former ones; functions listen, false and null are none.
 function dress(element, attributes) {
     const former = given.get(element);
     given.set(element, attributes);
@@ -108,19 +105,11 @@ function fill(document, parent, trees) {
     });
 }
 
-// Makes what stands in an element that of trees. An element that its tree still has stays: so do
-// the focus, a caret, a list that was scrolled, and a button between its press and its release.
+// Draws trees into an element; elements that stay keep focus, caret and scrolling.
 export function draw(document, parent, ...trees) {
     const active = document.activeElement;
     fill(document, parent, trees.flat(Infinity).filter(isThere));
     if (active && active !== document.activeElement && parent.contains(active)) {
         active.focus({ preventScroll: true });
     }
-}
-
-// The text of a tree, as a reader sees it: for tests.
-export function textOf(tree) {
-    if (Array.isArray(tree)) return tree.map(textOf).join(" ");
-    return typeof tree === "object" && tree !== null
-        ? tree.children.map(textOf).join(" ") : String(tree ?? "");
 }

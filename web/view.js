@@ -1,31 +1,26 @@
-// What the page shows of a state: trees for its parts, its texts, and what is hidden. Each is what
-// this state says, and nothing of a former one.
+// What the page shows of a state, and nothing of a former one.
+import { board, compared, played, watched } from "./board/drawing.js";
+import { byLoss, chosenOf, hasBegun, isFull, isKept, lostPips, makingOf, orderOf, shownPlay } from "./board/state.js";
+import { chances, kept, more, numbers, plays, rolls, sides, verdict } from "./board/view.js";
+import { answerOf, isComing, knownOf, needsMore, rollsOf, theirAnswer } from "./databases.js";
+import { editor } from "./editor/view.js";
+import { games } from "./games/view.js";
+import { doors, path, student } from "./home/view.js";
+import { lessonOf, showsRules, stepOf } from "./lesson/state.js";
+import { rules } from "./lesson/view.js";
 import { writeLink } from "./link.js";
-import { drillName } from "./questions.js";
+import { modeOf } from "./mode.js";
 import { inWords, pipsOf } from "./points.js";
+import { printed } from "./printed.js";
+import { drillKey, drillName } from "./question/questions.js";
+import { guessOf, questionOf, reasonsFor, verdictOf, whichOf } from "./question/state.js";
+import { estimateField, estimateTold, reasons } from "./question/view.js";
+import { review } from "./review/view.js";
+import { teaching } from "./teacher/view.js";
+import { coach, steering } from "./training.js";
 import { h } from "./tree.js";
-import { board, compared, played, watched } from "./board.js";
-import { editor } from "./editor.js";
-import { games } from "./games.js";
-import { doors, path } from "./home.js";
-import {
-    chances, COMING, kept, numbers, plays, reasons, rolls, sides, verdict,
-} from "./panels.js";
-import { review } from "./review.js";
-import { student } from "./student.js";
-import { teaching } from "./teaching.js";
-import {
-    coach, estimateField, estimateTold, more, printed, rules, steering, thumb,
-} from "./training.js";
-import { needsMore } from "./state/database.js";
-import {
-    answerOf, byLoss, chosenOf, drillKey, guessOf, hasBegun, isComing, isFull, isKept, knownOf,
-    lessonOf, lostPips, makingOf, modeOf, orderOf, questionOf, reasonsFor, rollsOf, shownPlay,
-    showsRules, stepOf, theirAnswer, verdictOf, whichOf,
-} from "./state/reads.js";
 
-// The parts that each screen has, beside those that all have; no others are in the document. The
-// first is where one goes on.
+// The parts of each screen beside common ones; the first is where one goes on.
 const ASKS = ["coach", "steering", "top", "right", "chances", "rolls", "reasons", "worth", "printed"];
 const SCREENS = {
     home: ["today", "path", "doors", "promise", "foot"],
@@ -43,10 +38,9 @@ const SCREENS = {
 const PARTS = [...new Set(Object.values(SCREENS).flat())];
 
 // What stands in the place of numbers that a lesson asks for.
-const asked = h("p", { class: "hint" }, "The numbers come with the answer.");
+const asked = h("p", { class: "hint" }, "The numbers are shown with the answer.");
 
-// The lesson or drill that one trains, and which question or step of it is on, as texts, or ""
-// where one doesn't train; and the screen.
+// The lesson or drill, its step or question, and the screen, as texts.
 const trainedOf = (state, { trains, screen }) => (!trains ? ["", "", screen]
     : state.drill ? [drillKey(state.drill), String(state.place), screen]
     : [String(state.lesson || state.text), String(state.step), screen]);
@@ -65,7 +59,7 @@ function titleOf(state, { screen }) {
 }
 
 export function view(state, act) {
-    const { points, roll, guess, stops, database, typed } = state;
+    const { points, roll, guess, stops, database, hand: { typed, theirs, picked, steps } } = state;
     const mode = modeOf(state);
     const { screen, trains, hidden } = mode;
     const answer = knownOf(state);
@@ -92,16 +86,21 @@ export function view(state, act) {
         worth: !showsRules(state),
     };
     return {
-        screen, trains,
+        screen,
+        // a play is to be guessed on the free board where one plays
+        classes: {
+            compact: screen === "embedded", training: trains, playing: Boolean(making) && !trains, rolled: Boolean(roll),
+        },
         trees: {
             board: !has("top") ? []
                 : making ? played(making, {
-                    picked: state.picked, stop: stops.board, begun: hasBegun(state),
-                    isAlone: !trains,
+                    picked, stop: stops.board, begun: hasBegun(state),
+                    isAlone: !trains, roll, start: points,
+                    made: steps.flat().map(({ move }) => move),
                 }, act)
                 : trains && told && shown && !shown.isBest
-                    ? compared(points, shown, byLoss(chosen)[0])
-                : trains ? watched(points, moves) : board(points, moves, act),
+                    ? compared(points, shown, byLoss(chosen)[0], roll)
+                : trains ? watched(points, moves, roll) : board(points, moves, act),
             reasons: reasons(reasonsFor(state)),
             worth: showsRules(state) ? rules(state, act) : [],
             coach: coach(state, told, act),
@@ -118,8 +117,8 @@ export function view(state, act) {
             numbers: !has("right") || away.right ? []
                 : hidden.numbers === "answer" ? asked
                 : hidden.numbers === "estimate" ? estimateField(state, act)
-                : [numbers(answer, isComing(state), waits && pipsOf(points)), thumb(points, answer),
-                    state.theirs && sides(answer, theirAnswer(state), pipsOf(state.theirs)),
+                : [numbers(answer, isComing(state), waits && pipsOf(points)),
+                    theirs && sides(answer, theirAnswer(state), pipsOf(theirs)),
                     estimateTold(state)],
             chances: answer && hasChances ? chances(answer.distribution) : [],
             grid: on("board")
@@ -152,7 +151,7 @@ export function view(state, act) {
             "file-why": !state.trouble,
             lesson: !state.title,
             trouble: !state.trouble,
-            wider: !state.isGivenUp || !needsMore(state),
+            wider: !state.work.isGivenUp || !needsMore(state),
             why: !typed,
         },
         title: titleOf(state, mode),
@@ -163,8 +162,6 @@ export function view(state, act) {
         isKnown: Boolean(answer),
         guess,
         whole: on("embedded") ? writeLink({ ...state, isCompact: false }) : "#",
-        isPlaying: Boolean(making) && !trains, // a play is to be guessed on the free board
-        hasRoll: Boolean(roll),
         trained: trainedOf(state, mode),
         begins: SCREENS[screen][0],
     };

@@ -1,7 +1,7 @@
 // Asks the package everything that the program was asked, and compares what it answers with the program's lines: each call,
 // the texts of its replies, whole tables, and the bytes of files: of databases and of a board of 90 pips, which to 58 pips
 // says what a database says. answers.mjs PACKAGE PROGRAM FOLDER [BOUND..]
-import { bytesOf, end, equal, FILES, linesOf, partOf, textOf, wrong } from "./given.mjs";
+import { bytesOf, end, equal, FILES, linesOf, partOf, refusedWith, textOf, wrong } from "./given.mjs";
 import { isNearest, nearest, number, walked, written } from "./written.mjs";
 
 const { Bearoff, BearoffError, asDoubles, asNumber } = await partOf("bearoff.js");
@@ -38,7 +38,7 @@ function compareLines(database, bound) {
 
 // What else is known of a position.
 function comparePosition(database, name, position) {
-    const { pips, checkers, off } = database.standing(position);
+    const { pips, checkers, off } = database.positionInfo(position);
     equal(`${name}, pips`, pips, position.reduce((sum, count, place) => sum + count * (place + 1), 0));
     equal(`${name}, checkers`, checkers, position.reduce((sum, count) => sum + count, 0));
     equal(`${name}, off`, off, 15 - checkers);
@@ -52,17 +52,21 @@ function comparePosition(database, name, position) {
     const rank = database.rank(position);
     equal(`${name}, its rank's position`, database.position(rank).join(), position.join());
     equal(`${name}, by the line`, database.answer(`rank ${position}`), `rank ${rank}`);
-    const [whole, shares] = [database.whole, database.distribution(position)];
+    const [whole, shares] = [database.denominator, database.distribution(position)];
     equal(`${name}, how many shares`, shares.length, database.version === 3 ? 34 : 23);
-    let [sum, all] = [0n, 0n];
+    let [sum, all, spread] = [0n, 0n, 0n];
     shares.forEach((share, rolls) => {
         sum += share.numerator;
         all += share.numerator * BigInt(rolls);
+        spread += share.numerator * (BigInt(rolls) * mean.denominator - mean.numerator) ** 2n;
         equal(`${name}, the whole`, share.denominator, whole);
         equal(`${name}, a share in thousandths`, database.thousandths(share), nearest(share));
         equal(`${name}, within ${rolls}`, database.within(position, rolls).thousandths, nearest({ numerator: sum, denominator: whole }));
     });
     equal(`${name}, all shares`, sum, whole);
+    const variance = database.variance(position);
+    equal(`${name}, the variance`, spread * variance.denominator, variance.numerator * whole * mean.denominator ** 2n);
+    equal(`${name}, the standard deviation`, database.standardDeviation(position), Math.sqrt(asNumber(variance)));
     equal(`${name}, within many`, database.within(position, 1000).thousandths, 1000);
     equal(`${name}, the mean of the shares`, all * mean.denominator, mean.numerator * whole);
     for (const roll of [[2, 1], [6, 6]]) {
@@ -79,7 +83,7 @@ function compareTexts(database) {
     const xgid = "XGID=-ABC--D------------a-b--c-:0:0:1:21:0:0:0:0:10";
     const [mine, theirs] = [[1, 2, 3, 0, 0, 4], [3, 0, 0, 2, 0, 1]];
     const same = (name, is, wanted) => equal(name, JSON.stringify(is), JSON.stringify(wanted));
-    for (const call of ["mean", "epc", "wastage", "distribution", "standing", "rank"]) {
+    for (const call of ["mean", "epc", "wastage", "distribution", "positionInfo", "rank"]) {
         for (const text of [xgid, read(xgid), "1,2,3,0,0,4", " 1 2 3 0 0 4"]) same(`${call} of a text`, database[call](text), database[call](mine));
     }
     same("within of a text", database.within(xgid, 5), database.within(mine, 5));
@@ -100,13 +104,7 @@ function compareTexts(database) {
     for (const [is, wanted] of wins) equal("who is off first", `${is}`, `${wanted}`);
     equal("both sides", (Number(database.wins(mine, theirs)) + Number(database.wins(theirs, mine, "theirs"))).toFixed(12), "1.000000000000");
     for (const words of [[mine], ["1,2,3,0,0,4"], [mine, theirs, "top"], [mine, theirs, null]]) {
-        let told = "none";
-        try {
-            database.wins(...words);
-        } catch (error) {
-            told = error.constructor.name;
-        }
-        equal("wins of one side, or of nobody's turn", told, "TypeError");
+        equal("wins of one side, or of nobody's turn", refusedWith(() => database.wins(...words)), "TypeError");
     }
 }
 
@@ -121,25 +119,13 @@ function compareLongest(database, bound) {
     equal(`the results of ${at}, by the line`, database.answer(`moves ${at} 11`), written(database, `moves ${at} 11`));
 }
 
-// The number of so many words that stands at a place of a table.
-function wordsAt(table, place, words) {
-    let told = 0n;
-    for (let word = 0; word < words; word++) told = (told << 64n) | table[place + word];
-    return told;
-}
-
-function refusedWith(ask) {
-    try {
-        return `the answer ${ask()}`;
-    } catch (error) {
-        return error instanceof BearoffError ? error.code : error.constructor.name;
-    }
-}
+// The number of three words that stands at a place of a table.
+const wordsAt = (table, place) => (table[place] << 128n) | (table[place + 1] << 64n) | table[place + 2];
 
 // Whole tables, beside the calls for one position, which were compared with the program's lines, and the sums of all shares.
 function compareTables(database, bound, asked) {
-    const [count, whole, words, rolls] = [database.positionCount, database.whole, ...(database.version === 3 ? [3, 34] : [2, 23])];
-    const lengths = { positions: 6, means: words, epcs: 2 * words + 1, distributions: rolls * words };
+    const [count, whole, rolls] = [database.positionCount, database.denominator, database.version === 3 ? 34 : 23];
+    const lengths = { positions: 6, means: 3, epcs: 7, distributions: 102 };
     const tables = Object.fromEntries(Object.keys(lengths).map((name) => [name, database[name]()]));
     for (const [name, table] of Object.entries(tables)) {
         const each = lengths[name];
@@ -162,19 +148,19 @@ function compareTables(database, bound, asked) {
         const name = `${text} in the tables of ${bound} pips`;
         equal(`${name}, the position`, positions.subarray(6 * rank, 6 * rank + 6).join(), text);
         const [mean, epc] = [database.mean(position), database.epc(position)];
-        equal(`${name}, the mean`, wordsAt(means, words * rank, words) * mean.denominator, mean.numerator * whole);
+        equal(`${name}, the mean`, wordsAt(means, 3 * rank) * mean.denominator, mean.numerator * whole);
         equal(`${name}, near the mean`, Math.abs(doubles[rank] - asNumber(mean)) <= 1e-15 * doubles[rank], true);
-        const place = (2 * words + 1) * rank;
-        equal(`${name}, the effective pip count`, [wordsAt(epcs, place, words), wordsAt(epcs, place + words, words), epcs[place + 2 * words]].join(),
+        const place = 7 * rank;
+        equal(`${name}, the effective pip count`, [wordsAt(epcs, place), wordsAt(epcs, place + 3), epcs[place + 6]].join(),
             [epc.numerator, epc.denominator, epc.thousandths].join());
         database.distribution(position).forEach((share, place) => {
-            equal(`${name}, the share of ${place}`, wordsAt(distributions, words * (rolls * rank + place), words), share.numerator);
+            equal(`${name}, the share of ${place}`, wordsAt(distributions, 102 * rank + 3 * place), share.numerator);
             equal(`${name}, near it`, Math.abs(shares[rolls * rank + place] - asNumber(share)) <= 1e-15, true);
         });
     }
     for (let rank = 0; rank < count; rank++) {
         let sum = 0n;
-        for (let place = 0; place < rolls; place++) sum += wordsAt(distributions, words * (rolls * rank + place), words);
+        for (let place = 0; place < rolls; place++) sum += wordsAt(distributions, 102 * rank + 3 * place);
         if (sum !== whole) wrong(`the shares of rank ${rank} add up to ${sum}`);
     }
     return tables;
@@ -187,10 +173,9 @@ async function compareWithDatabase(board, { positions, means, distributions }) {
     equal("the positions of 58 pips", positions.subarray(0, 6 * count).join(), database.positions().join());
     const [itsMeans, itsShares] = [database.means(), database.distributions()];
     for (let rank = 0; rank < count; rank++) {
-        if (wordsAt(means, 3 * rank, 3) !== wordsAt(itsMeans, 2 * rank, 2) * more) wrong(`the mean of rank ${rank} is not that of the database`);
-        for (let place = 0; place < 34; place++) {
-            const is = wordsAt(distributions, 102 * rank + 3 * place, 3);
-            if (is !== (place > 22 ? 0n : wordsAt(itsShares, 46 * rank + 2 * place, 2) * more)) wrong(`a share of rank ${rank} is not that of the database`);
+        if (wordsAt(means, 3 * rank) !== wordsAt(itsMeans, 3 * rank) * more) wrong(`the mean of rank ${rank} is not that of the database`);
+        for (let place = 102 * rank; place < 102 * rank + 102; place += 3) {
+            if (wordsAt(distributions, place) !== wordsAt(itsShares, place) * more) wrong(`a share of rank ${rank} is not that of the database`);
         }
     }
     for (let rank = 1; rank < count; rank += 463) {
@@ -207,7 +192,7 @@ for (const bound of process.argv.length > 5 ? process.argv.slice(5).map(Number) 
     const built = await Bearoff.build(bound);
     equal(`the file of ${bound} pips`, Buffer.compare(Buffer.from(built.bytes()), file), 0);
     equal(`the bound of ${bound} pips`, built.bound, bound);
-    equal(`the version of ${bound} pips`, [built.version, built.whole].join(), [[1, 36n ** 22n], [2, 36n ** 22n], [3, 36n ** 33n]][(bound > 44) + (bound > 58)].join());
+    equal(`the version of ${bound} pips`, [built.version, built.denominator].join(), [[1, 36n ** 22n], [2, 36n ** 22n], [3, 36n ** 33n]][(bound > 44) + (bound > 58)].join());
     equal("the version of the library", built.libraryVersion, version);
     built.close();
     const database = await Bearoff.open(file);

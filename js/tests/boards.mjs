@@ -4,21 +4,12 @@ import { spawnSync } from "node:child_process";
 import { mkdtempSync, readFileSync, rmSync, writeFileSync } from "node:fs";
 import { tmpdir } from "node:os";
 import { join } from "node:path";
-import { bytesOf, end, equal, FILES, partOf, program, smallBoard, wrong } from "./given.mjs";
+import { bytesOf, end, equal, FILES, partOf, program, refusedWith, smallBoard, wrong } from "./given.mjs";
 import { written } from "./written.mjs";
 
-const { Bearoff, BearoffError, DamagedError, asDoubles } = await partOf("bearoff.js");
+const { Bearoff, DamagedError, asDoubles } = await partOf("bearoff.js");
 const WHOLE = 36n ** 33n;
 const LAST = [0, 0, 0, 0, 0, 15];
-
-// What a call is refused with: the code of a BearoffError, else the kind of error; or what it answered.
-function refusedWith(ask) {
-    try {
-        return `the answer ${ask()}`;
-    } catch (error) {
-        return error instanceof BearoffError ? error.code : error.constructor.name;
-    }
-}
 
 // What has no answer.
 function compareRefusals(board) {
@@ -41,7 +32,7 @@ function compareRefusals(board) {
         [{ numerator: 2n ** 192n, denominator: 1n }, "RangeError"], [{ numerator: -1n, denominator: 1n }, "RangeError"],
         [{ numerator: 6n * WHOLE, denominator: 6n * WHOLE }, "the answer 1000"], [{ numerator: 180n, denominator: 1n }, "the answer 180000"], [{ numerator: 1n, denominator: 2000n }, "the answer 1"],
     ]) equal(`the thousandths of ${fraction.numerator}/${fraction.denominator}`, refusedWith(() => board.thousandths(fraction)), refusal);
-    for (const [table, whole] of [[new BigUint64Array(4), WHOLE], [new BigUint64Array(3), 36n ** 22n], [new BigUint64Array(3), undefined], [new BigUint64Array(6), 36n], [new BigUint64Array(6), 33]]) {
+    for (const [table, whole] of [[new BigUint64Array(4), WHOLE], [new BigUint64Array(4), 36n ** 22n], [new BigUint64Array(3), undefined], [new BigUint64Array(6), 36n], [new BigUint64Array(6), 33]]) {
         equal("doubles of no table", refusedWith(() => asDoubles(table, whole)), "TypeError");
     }
 }
@@ -80,8 +71,8 @@ async function compareDamages(file) {
 async function compareClosed(file) {
     const board = await Bearoff.open(file);
     const database = await Bearoff.open(bytesOf("eight"));
-    equal("a board, its version", [board.version, board.bound, board.positionCount, board.whole, board.isOpen].join(), [3, 8, 64, WHOLE, true].join());
-    equal("a database, its version", [database.version, database.bound, database.positionCount, database.whole].join(), [1, 8, 64, 36n ** 22n].join());
+    equal("a board, its version", [board.version, board.bound, board.positionCount, board.denominator, board.isOpen].join(), [3, 8, 64, WHOLE, true].join());
+    equal("a database, its version", [database.version, database.bound, database.positionCount, database.denominator].join(), [1, 8, 64, 36n ** 22n].join());
     board.close();
     const ONE = [1, 0, 0, 0, 0, 0];
     for (const [name, ask] of Object.entries({
@@ -109,7 +100,7 @@ async function compareBounds() {
     }
     for (const [bound, version, pips] of [[58, 2, 22n], [59, 3, 33n]]) {
         const built = await Bearoff.build(bound);
-        equal(`building ${bound}`, [built.bound, built.version, built.whole].join(), [bound, version, 36n ** pips].join());
+        equal(`building ${bound}`, [built.bound, built.version, built.denominator].join(), [bound, version, 36n ** pips].join());
         if (version === 3) compareRefusals(built);
         built.close();
     }

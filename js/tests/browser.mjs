@@ -1,10 +1,10 @@
-// Loads the package as a module into Chromium, from a local server: in a page and in a module worker, where memories have
-// addresses of 64 bits and where they haven't, and as esbuild bundles it for browsers. browser.mjs PACKAGE PROGRAM FOLDER.
-// Says what went wrong, and fails; where Chromium isn't installed it says so.
+// Loads the package as a module into each browser that is installed, from a local server: in a page and in a module worker,
+// which posts what it was answered, and as esbuild bundles it for browsers; in Chromium also where memories have no addresses
+// of 64 bits. browser.mjs PACKAGE PROGRAM FOLDER. Says what went wrong, and fails.
 import { spawnSync } from "node:child_process";
 import { createServer } from "node:http";
 import { extname } from "node:path";
-import { Browser, installed } from "../../tests/page/browser.mjs";
+import { started } from "../../tests/page/browser.mjs";
 import { bytesOf, end, equal, linesOf, packageBytes, wrong } from "./given.mjs";
 
 const TYPES = { ".js": "text/javascript", ".wasm": "application/wasm", "/": "text/html; charset=utf-8" };
@@ -24,7 +24,8 @@ export async function told(words) {
     let code = "";
     try { database.mean([0, 0, 0, 0, 0, 9]); } catch (error) { code = error.code; }
     database.close();
-    return { replies, six: means[built.rank([0, 0, 0, 0, 0, 1])].toFixed(12), same, code };
+    const six = [0, 0, 0, 0, 0, 1];
+    return { replies, six: means[built.rank(six)].toFixed(12), same, code, epc: built.epc(six) };
 }`;
 
 const WORKER = `
@@ -48,14 +49,11 @@ const asked = (words) => new Promise((keep) => {
     worker.postMessage(words);
 });
 const fail = (error) => String(error);
-window.done = { page: await told().catch(fail), worker: await asked({}), handed: await asked({ module: await loadModule() }) };
+const done = { page: await told().catch(fail), worker: await asked({}), handed: await asked({ module: await loadModule() }) };
+for (const it of Object.values(done)) if (it.epc) it.epc = it.epc.value;
+window.done = done;
 </script>`;
 
-const program = installed();
-if (!program) {
-    console.log("js: Chromium isn't installed, so the package was tried under node alone");
-    end();
-}
 // the same script with the package in it, as it lies beside the modules' files
 const { stdout: bundle, stderr: refused } = spawnSync("esbuild", ["--bundle", "--platform=browser", "--format=esm"],
     { input: ASKED.replace("/package/", "./"), cwd: process.argv[2], encoding: "utf8" });
@@ -75,29 +73,31 @@ const server = createServer((request, response) => {
 await new Promise((keep) => server.on("listening", keep));
 const address = `http://127.0.0.1:${server.address().port}/`;
 
-const browser = new Browser(program);
+const browsers = await started();
 try {
     // the worker that is handed no module finds out for itself what can run there
     const NARROWED = "const validate = WebAssembly.validate; WebAssembly.validate = (bytes) => bytes.length !== 13 && validate(bytes);";
-    for (const [name, before, form, asked] of [
+    for (const browser of browsers) for (const [how, before, form, asked] of [
         ["as it is", "", "wide", "/asked.js"],
         ["narrowed", NARROWED, "narrow", "/asked.js"],
         ["in a bundle", "", "wide", "/package/asked.js"],
         ["in a narrowed bundle", NARROWED, "narrow", "/package/asked.js"],
     ]) {
+        const [name, isChromium] = [`${browser.name}, ${how}`, browser.name === "Chromium"];
+        if (before && !isChromium) continue;
         fetched.length = 0;
         const page = await browser.open(`${address}?asked=${asked}`, { before });
         await page.until("window.done", 30000).catch((error) => wrong(`${name}: ${error.message}; ${page.troubles().join()}; ${fetched.join(" ")}`));
         const done = (await page.value("window.done")) || {};
         for (const [where, is] of Object.entries(done)) {
             equal(`${name}, the ${where}, replies that are others`, replies.filter((reply, place) => reply !== is.replies?.[place]).length, 0);
-            equal(`${name}, the ${where}`, JSON.stringify(is.replies ? { ...is, replies: is.replies.length } : is), JSON.stringify({ replies: 200, six: "1.250000000000", same: true, code: "over-bound" }));
+            equal(`${name}, the ${where}`, JSON.stringify(is.replies ? { ...is, replies: is.replies.length } : is), JSON.stringify({ replies: 200, six: "1.250000000000", same: true, code: "over-bound", epc: 245 / 24 }));
         }
-        equal(`${name}, the form that the page fetched`, fetched.includes(`/package/${form}.wasm`), true);
+        if (isChromium) equal(`${name}, the form that the page fetched`, fetched.includes(`/package/${form}.wasm`), true);
         equal(`${name}, what went wrong`, page.troubles().join(), "");
     }
 } finally {
-    await browser.close();
+    await Promise.all(browsers.map((browser) => browser.close()));
     server.close();
 }
 end();

@@ -1,4 +1,4 @@
-// What the tests of the package are given: the package as it was put down, the program, and a folder with its files eight,
+// What the tests of the package are given: the package as installed, the program, and a folder with its files eight,
 // race.db, large.db and whole.board of 8, 44, 58 and 90 pips, with questions_8, replies_8 and so on.
 import { readdirSync, readFileSync } from "node:fs";
 import { join, resolve } from "node:path";
@@ -26,6 +26,34 @@ export function wrong(text) {
 }
 
 export const equal = (name, is, wanted) => is === wanted || wrong(`${name}: ${is}, and not ${wanted}`);
+
+const { BearoffError } = await partOf("bearoff.js");
+
+// What a call is refused with: the code of a BearoffError, else the kind of error; or what it answered.
+export async function refusedLater(ask) {
+    try {
+        return `the answer ${await ask()}`;
+    } catch (error) {
+        return error instanceof BearoffError ? error.code : error.constructor.name;
+    }
+}
+
+export function refusedWith(ask) {
+    try {
+        return `the answer ${ask()}`;
+    } catch (error) {
+        return error instanceof BearoffError ? error.code : error.constructor.name;
+    }
+}
+
+// What a call answers, or the error that it throws, as texts.
+export function saidBy(ask) {
+    try {
+        return `${ask()}`;
+    } catch (error) {
+        return `${error.name}: ${error.message}`;
+    }
+}
 
 // A board file of a small bound, which the module builds and the package doesn't.
 export async function smallBoard(bound) {

@@ -5,7 +5,9 @@ import { mkdtempSync, rmSync, writeFileSync } from "node:fs";
 import { tmpdir } from "node:os";
 import { join } from "node:path";
 import { pathToFileURL } from "node:url";
-import { bytesOf, end, equal, packageBytes, packageParts, partOf, program, textOf, wrong } from "./given.mjs";
+import {
+    bytesOf, end, equal, packageBytes, packageParts, partOf, program, refusedLater, refusedWith, textOf, wrong,
+} from "./given.mjs";
 
 const { Bearoff, BearoffError, DamagedError, asDoubles, loadModule } = await partOf("bearoff.js");
 const { Engine } = await partOf("engine.js");
@@ -17,29 +19,12 @@ const TWO = [0, 1, 0, 0, 0, 0];
 const THREE = [0, 0, 1, 0, 0, 0]; // where 2-1 leads from there
 const ROLL = [2, 1];
 
-// What a call is refused with: the code of a BearoffError, else the kind of error; or what it answered.
-function refusedWith(ask) {
-    try {
-        return `the answer ${ask()}`;
-    } catch (error) {
-        return error instanceof BearoffError ? error.code : error.constructor.name;
-    }
-}
-
-async function refusedLater(ask) {
-    try {
-        return `the answer ${await ask()}`;
-    } catch (error) {
-        return error instanceof BearoffError ? error.code : error.constructor.name;
-    }
-}
-
 // The database still answers everything as it did.
 const STILL = JSON.stringify(["mean 1/1 epc 49/6 8.167", 1, 8, 64, "2,19,15,1"]);
 
 function compareStill(name) {
     const is = [database.answer("mean 0,1,0,0,0,0"), database.version, database.bound, database.positionCount,
-        [database.standing(TWO).pips, database.rank(SIX), database.moves([1, 1, 1, 0, 0, 0], [2, 2]).length + 14, database.mean(TWO).numerator].join()];
+        [database.positionInfo(TWO).pips, database.rank(SIX), database.moves([1, 1, 1, 0, 0, 0], [2, 2]).length + 14, database.mean(TWO).numerator].join()];
     equal(`after ${name}`, JSON.stringify(is), STILL);
 }
 
@@ -81,7 +66,7 @@ function refusePositions() {
     const asked = {
         mean: (position) => database.mean(position), epc: (position) => database.epc(position),
         wastage: (position) => database.wastage(position), distribution: (position) => database.distribution(position),
-        within: (position) => database.within(position, 1), standing: (position) => database.standing(position),
+        within: (position) => database.within(position, 1), positionInfo: (position) => database.positionInfo(position),
         rank: (position) => database.rank(position), play: (position) => database.play(position, ROLL),
         moves: (position) => database.moves(position, ROLL), loss: (position) => database.loss(position, ROLL, THREE),
         playTo: (position) => database.playTo(position, ROLL, THREE), "loss to": (position) => database.loss(SIX, ROLL, position),
@@ -95,7 +80,7 @@ function refusePositions() {
         for (const [position, code] of [[[16, 0, 0, 0, 0, 0], "too-many"], [[255, 255, 255, 255, 255, 255], "too-many"]]) {
             equal(`${name} of ${position}`, refusedWith(() => ask(position)), code);
         }
-        if (!["standing", "playTo", "playTo to", "loss to"].includes(name)) equal(`${name} of 9 pips`, refusedWith(() => ask([9, 0, 0, 0, 0, 0])), "over-bound");
+        if (!["positionInfo", "playTo", "playTo to", "loss to"].includes(name)) equal(`${name} of 9 pips`, refusedWith(() => ask([9, 0, 0, 0, 0, 0])), "over-bound");
         compareStill(`${name} of wrong positions`);
     }
     for (const [position, wanted] of [[new Uint8Array(SIX), "5/4"], [new Float64Array(SIX), "5/4"], [[-0, 0, 0, 0, 0, 1], "5/4"], [Object.freeze(SIX.slice()), "5/4"]]) {
@@ -196,7 +181,7 @@ async function refuseOpening() {
     }
     for (const bound of [0, 1, -0]) {
         const small = await Bearoff.build(bound);
-        equal(`${bound} pips`, [small.bound, small.positionCount, small.means().length, small.answer("mean 0,0,0,0,0,0")].join(), `${Math.abs(bound)},${bound + 1},${2 * bound + 2},mean 0/1 epc 0/1 0.000`);
+        equal(`${bound} pips`, [small.bound, small.positionCount, small.means().length, small.answer("mean 0,0,0,0,0,0")].join(), `${Math.abs(bound)},${bound + 1},${3 * bound + 3},mean 0/1 epc 0/1 0.000`);
         small.close();
     }
 }
@@ -247,7 +232,7 @@ async function refuseClosed() {
     const other = await Bearoff.build(1);
     for (const [name, ask] of Object.entries({
         mean: () => opened.mean(SIX), epc: () => opened.epc(SIX), wastage: () => opened.wastage(SIX), distribution: () => opened.distribution(SIX),
-        within: () => opened.within(SIX, 1), standing: () => opened.standing(SIX), rank: () => opened.rank(SIX), position: () => opened.position(1),
+        within: () => opened.within(SIX, 1), positionInfo: () => opened.positionInfo(SIX), rank: () => opened.rank(SIX), position: () => opened.position(1),
         play: () => opened.play(SIX, ROLL), playTo: () => opened.playTo(SIX, ROLL, TWO), loss: () => opened.loss(SIX, ROLL, TWO), moves: () => opened.moves(SIX, ROLL),
         answer: () => opened.answer("mean 0,0,0,0,0,1"), thousandths: () => opened.thousandths({ numerator: 1n, denominator: 2n }), positions: () => opened.positions(),
         means: () => opened.means(), epcs: () => opened.epcs(), distributions: () => opened.distributions(0, 0), bytes: () => opened.bytes(), upgrade: () => opened.upgrade(),

@@ -4,7 +4,7 @@
 import { existsSync, readFileSync } from "node:fs";
 import { at, end, equal, partOf, wrong } from "./given.mjs";
 
-const { BearoffError, NoRaceError, fromGnubg, fromXgid, read, toGnubg, toXgid } = await partOf("notation.js");
+const { BearoffError, NotARaceError, fromGnubg, fromXgid, read, toGnubg, toXgid } = await partOf("notation.js");
 const texts = JSON.parse(readFileSync(new URL("../../tests/callers/notation_texts.json", import.meta.url), "utf8"));
 const CODES = ["malformed", "too-many", "bar", "outside", "contact", "other-side"];
 const SIX = [0, 0, 0, 0, 0, 1];
@@ -18,7 +18,7 @@ function outcome(call, ...words) {
     try {
         return call(...words);
     } catch (error) {
-        return error instanceof NoRaceError ? error.code : error.constructor.name;
+        return error instanceof NotARaceError ? error.code : error.constructor.name;
     }
 }
 
@@ -36,9 +36,9 @@ function compareTexts() {
         try {
             wrong(`${text} is read as ${JSON.stringify(read(text))}`);
         } catch (error) {
-            if (!(error instanceof NoRaceError && error instanceof BearoffError)) throw error;
+            if (!(error instanceof NotARaceError && error instanceof BearoffError)) throw error;
             const is = [error.code, error.message, error.status, error.name];
-            same(`the refusal of ${text}`, is, [code, line, 0, "NoRaceError"]);
+            same(`the refusal of ${text}`, is, [code, line, 0, "NotARaceError"]);
             seen.add(error.code);
         }
     }
@@ -67,7 +67,7 @@ function readAnyText() {
         try {
             call(text);
         } catch (error) {
-            if (!(error instanceof NoRaceError)) throw error;
+            if (!(error instanceof NotARaceError)) throw error;
             equal("a message on one line", /^[ -~]{1,300}$/.test(error.message), true);
         }
     };
@@ -223,7 +223,7 @@ async function comparePlays() {
             told = String(database.playTo(position, roll, decodeURIComponent(coded)).to);
         } catch (error) {
             // which a text that is no play gets as one that is no position
-            if (error instanceof BearoffError && error.name !== "NoRaceError") throw error;
+            if (error instanceof BearoffError && error.name !== "NotARaceError") throw error;
         }
         equal(`the play ${coded}`, told, to);
     }

@@ -93,6 +93,8 @@ equal("an answer in parts of one byte", (await Bearoff.open(new Response(new Rea
         controller.close();
     },
 })))).positionCount, 64);
+equal("an answer of empty parts", await said(() => Bearoff.open(endless(new Uint8Array(0), new Uint8Array(0))[0])),
+    "TypeError: the stream of the file has more than 1000 empty parts");
 equal("an answer that breaks off", await said(() => Bearoff.open(new Response(new ReadableStream({
     pull(controller) { controller.error(new RangeError("gone")); },
 })))), "RangeError: gone");

@@ -1,8 +1,10 @@
 // What the types let through, and what they refuse: a line below @ts-expect-error that compiles is an error.
 import { asDoubles, asNumber, Bearoff, BearoffError, DamagedError, loadModule } from "bearoff";
 import type { Choice, Counts, Exact, FileBytes, Fraction, FractionText, Play, Position, Roll, Rounded, Table } from "bearoff";
-import { fromGnubg, fromXgid, NoRaceError, read, toGnubg, toXgid } from "bearoff/notation";
+import { fromGnubg, fromXgid, NotARaceError, read, toGnubg, toXgid } from "bearoff/notation";
 import type { GivenRace, NoRaceCode, OnRoll, Race } from "bearoff/notation";
+import { bearoffs, readMatch } from "bearoff/matches";
+import type { BadMatchError, Match } from "bearoff/matches";
 
 declare const console: { log(text: string): void };
 
@@ -17,10 +19,10 @@ const loss: Fraction = database.loss("0,0,0,0,0,1", "2-1", play);
 const counts: Counts = database.position(database.rank(new Uint8Array([0, 0, 0, 0, 0, 1])));
 const halves: BigUint64Array = database.means(0, 3);
 const table: Table = database.distributions();
-const itsWhole: bigint | null = table.whole;
-const part: BigUint64Array = table.subarray(0, table.words);
+const itsWhole: bigint | null = table.denominator;
+const part: BigUint64Array = table.subarray(0, 3);
 const doubles: Float64Array = asDoubles(halves);
-const whole: bigint = database.whole;
+const whole: bigint = database.denominator;
 const over: Float64Array = asDoubles(halves, whole);
 const texts: string[] = play.text.split(" ").filter((text, place) => text === `${play.moves[place]?.from}/${play.moves[place]?.to}`);
 const split: number[] = "0,0,0,0,0,1".split(",").map(Number);
@@ -29,8 +31,9 @@ const share: Exact | undefined = database.distribution(split)[1];
 const digits: FractionText | undefined = share?.toJSON();
 const thousandths: number = mean.toJSON().thousandths;
 const chance: Rounded = database.within({ mine: six }, 1);
-const isLess: boolean = mean < effective && chance <= mean;
-const sum: number = +database.wastage(six) + Number(chance) + mean.valueOf();
+const variance: Exact = database.variance("0,0,0,0,0,1");
+const isLess: boolean = mean < effective && chance <= mean && variance < mean && database.standardDeviation(six) < 1;
+const sum: number = +database.wastage(six) + Number(chance) + mean.value;
 const closing: Disposable = await Bearoff.build(0);
 closing[Symbol.dispose]();
 const again: Bearoff = await Bearoff.open(database.upgrade(), { module: await loadModule() });
@@ -39,10 +42,10 @@ const race: Race = read("xwQAgHY8AAAAAA:MAEFAAAAAAAE");
 const given: GivenRace = { mine: race.mine, theirs: new Uint8Array(6), dice: [1, 2] };
 const onRoll: OnRoll | null = fromXgid(toXgid(race)).onRoll;
 const notations: string[] = [toXgid(race), toGnubg(given), onRoll ?? "", fromGnubg(toGnubg(race)).dice?.join("") ?? ""];
-const pips: number = database.standing(race.mine).pips;
+const pips: number = database.positionInfo(race.mine).pips;
 
 function named(error: unknown): string {
-    if (error instanceof NoRaceError) {
+    if (error instanceof NotARaceError) {
         const code: NoRaceCode = error.code;
         return code;
     }
@@ -59,8 +62,12 @@ const told = [notations.join(" "), pips, refusal,
     effective.thousandths, digits?.numerator === `${share?.numerator}`, thousandths, JSON.stringify([mean, loss])];
 console.log(told.join("; "));
 
-// What doesn't compile, and is never called.
+// What is never called: matches, and what doesn't compile.
 export async function wrong(): Promise<void> {
+    const match: Match = readMatch("7 point match");
+    const errors: Fraction[] = bearoffs(match).map(({ points, dice, to }) => database.loss(points, dice, to));
+    const why = (error: BadMatchError): "malformed" | "illegal" | "turn" | "variation" => error.code;
+    void [errors, why];
     // @ts-expect-error a number
     database.mean(6);
     // @ts-expect-error texts in a list of the caller's
@@ -95,7 +102,7 @@ export async function wrong(): Promise<void> {
     // @ts-expect-error a text among counts
     database.epc([0, 0, 0, 0, 0, "1"]);
     // @ts-expect-error nothing
-    database.standing(null);
+    database.positionInfo(null);
     // @ts-expect-error bigints
     database.rank([0n, 0n, 0n, 0n, 0n, 1n]);
     // @ts-expect-error three dice
@@ -123,9 +130,9 @@ export async function wrong(): Promise<void> {
     // @ts-expect-error a whole that is a double
     asDoubles(halves, 36 ** 22);
     // @ts-expect-error a table of positions has no whole
-    database.positions().whole;
+    database.positions().denominator;
     // @ts-expect-error a table keeps its whole
-    table.whole = whole;
+    table.denominator = whole;
     // @ts-expect-error a module that is an address
     await Bearoff.build(44, { module: "wide.wasm" });
     // @ts-expect-error it is opened, and not made
