@@ -1,24 +1,23 @@
-"""Exact answers of a proved backgammon bearoff database.
+"""Exact, formally verified bearoff tables for backgammon.
 
-A database is a file that ``bearoff build`` writes, or what `Database.build` makes; a board file,
-which ``bearoff build --board`` writes, is one with the whole home board. `Database.open` checks it
-once, and accepts it exactly where it is right: every mean in it is the least over all strategies,
-the recorded plays reach these means, and the recorded shares are those of these plays. That is
-proved of the library that this package calls, and so is what the library answers; this package
-only hands numbers over, and lists the positions of a board file by itself.
+A database is a file that ``bearoff build`` writes or that `Database.build` makes. A board file,
+which ``bearoff build --board`` writes, is one for the whole home board. `Database.open` verifies a
+file and accepts it if and only if it is right: every mean is the minimum over all strategies, the
+recorded plays reach these means, and the recorded shares are those of these plays. This is proved
+for the library that this package calls, and so are the library's answers. The package itself is
+tested.
 
     >>> database = Database.open("race.db")
     >>> database.mean("0,0,0,0,0,1")
     Fraction(5, 4)
 
-A position is six counts of checkers, that of the ace point first, or a text of them, an XGID, or a
-Position ID of GNU Backgammon. A roll is its two dice, in either order. All numbers are exact:
-`fractions.Fraction`, in rolls, in pips, or a chance. Whole tables come as arrays, by rising rank,
-which `memoryview` and numpy read without a copy, exact or as floats, and `Database.ranks` finds
-the rows of many positions in them. `export` writes them as CSV, JSON or SQLite.
-`bearoff.notation` reads and writes positions as other programs have them, and `bearoff.gnubg`
-bearoff files of GNU Backgammon. `grade` tells what the bearoff plays of a match have lost.
-``python -m bearoff`` does all this as a command.
+A position is six counts of checkers, the ace point first, as numbers or text, an XGID, or a
+Position ID of GNU Backgammon. A roll is two dice in either order. All numbers are exact: a
+`fractions.Fraction` in rolls or pips, or a probability. Whole tables are arrays by rank, as floats
+or exact, which `memoryview` and numpy read without a copy; `Database.ranks` finds the rows of many
+positions. `export` writes them as CSV, JSON or SQLite. `bearoff.notation` reads and writes
+positions of other programs, and `bearoff.gnubg` bearoff files of GNU Backgammon. `grade` lists
+what the bearoff plays of a match lost. ``python -m bearoff`` offers all this on the command line.
 """
 
 from . import gnubg, notation
@@ -31,17 +30,16 @@ from .errors import (
     Changed,
     Damaged,
     NoLibrary,
-    NoRace,
+    NotARace,
     OutOfRange,
     Refused,
 )
-from .exact import WEIGHTS, WHOLE
+from .exact import WHOLE
 from .grading import Graded, GradedPlay, GradedPlayer, grade
-from .positions import Choice, EffectivePips, Move, Play, Position, Race, Standing, Wastage
+from .positions import Choice, EffectivePips, Move, Play, Position, PositionInfo, Race, Wastage
 from .tables import export
 
 __all__ = [
-    "WEIGHTS",
     "WHOLE",
     "BadArgument",
     "BadMatch",
@@ -56,13 +54,13 @@ __all__ = [
     "GradedPlayer",
     "Move",
     "NoLibrary",
-    "NoRace",
+    "NotARace",
     "OutOfRange",
     "Play",
     "Position",
+    "PositionInfo",
     "Race",
     "Refused",
-    "Standing",
     "Wastage",
     "__version__",
     "export",

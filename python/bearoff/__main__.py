@@ -10,12 +10,12 @@ import shutil
 import signal
 import sys
 import sysconfig
-from typing import Any, Callable, Dict, NoReturn, Optional, Sequence, Tuple
+from typing import Any, Callable, Dict, Iterator, NoReturn, Optional, Sequence, Tuple, Union
 
 from . import __version__, gnubg
 from ._writing import write_whole
 from .database import Database
-from .errors import BadArgument, BadMatch, Damaged, NoLibrary, Refused
+from .errors import BadArgument, BadMatch, BearoffError, Damaged, NoLibrary, Refused
 from .grading import NOTE, grade
 from .notation import read
 from .positions import Position, Rounded, position_of, sides_of
@@ -23,31 +23,33 @@ from .tables import export
 from .texts import MOST_MATCH, printable
 
 _WHOLE_BOARD = 90
-_POSITION = "six counts, that of the ace point first, an XGID or a Position ID"
-_FILE = "a file that `bearoff build` has written; without it one is built, which takes a second"
+_NOTHING = Position(0, 0, 0, 0, 0, 0)
+_POSITION = "six counts, the ace point first, an XGID or a Position ID"
+_POSITIONS = f"{_POSITION}; - reads standard input, one per line"
+_FILE = "a file that `bearoff build` wrote (default: build one, in a second)"
 _WINS = (
-    "Both players make the plays that take the fewest rolls in the mean. In most races others win"
-    " more often, at times by a point of a hundred and more; the cube is left aside."
+    "Both players make the plays that minimize the expected number of rolls. Another play usually"
+    " wins slightly more often, sometimes by over 1 %. The cube is left out."
 )
 _GNUBG = (
-    "Such a file has 16 bits for each share, so it can't say the exact numbers, and can't be"
-    " certified."
+    "Such a file stores shares in 16 bits, so its numbers are not exact and can't be verified."
 )
 
-PROGRAM = ("build", "check", "query", "ask", "about", "audit", "upgrade")
+PROGRAM = ("build", "check", "query", "ask", "show", "about", "audit", "upgrade")
 """The commands of the program `bearoff`."""
 
 _OTHERS = (
-    f"{', '.join(PROGRAM[:-1])} and {PROGRAM[-1]} are commands of the program `bearoff`, which a"
-    " wheel has in it: their words are handed to it."
+    f"{', '.join(PROGRAM[:-1])} and {PROGRAM[-1]} are commands of the program `bearoff`, which"
+    " wheels include; their arguments are passed to it."
 )
 
 
 def main(words: Optional[Sequence[str]] = None) -> int:
     """Runs the command with its words, and gives the exit status: 0; 1 where a file can't be read
     or written, or a thread or memory can't be had; 2 where a position, a roll or another word is
-    none; or 3 where the database, the match or the question is refused. With a command of the
-    program `bearoff` this process becomes that program.
+    none; or 3 where the database, the match or the question is refused. Of several positions it is
+    that of the first one without an answer. With a command of the program `bearoff` this process
+    becomes that program.
     """
     given = sys.argv[1:] if words is None else [*words]
     if given and given[0] in PROGRAM:
@@ -57,27 +59,26 @@ def main(words: Optional[Sequence[str]] = None) -> int:
     try:
         sys.stdout.write(run(asked))
         sys.stdout.flush()
+        status: int = asked.status
+        return status
     except (Damaged, Refused) as refused:
         return _fail(3, str(refused))
     except BadMatch as bad:
         return _fail(3, f"{asked.match}: {bad}")
-    except BrokenPipeError:
-        # nobody reads on; what is left may go nowhere
-        os.dup2(os.open(os.devnull, os.O_WRONLY), sys.stdout.fileno())
-        return 1
     except BadArgument as bad:
         return _fail(2, str(bad))
     except (NoLibrary, OSError, ValueError) as error:
         return _fail(1, str(error))
     except MemoryError:
         return _fail(1, "there is too little memory")
-    return 0
 
 
 def run() -> int:
     """Does what `main` does, as a process of its own. A signal that asks it to end lets it take
-    away first what it has begun.
+    away first what it has begun. Where nobody reads on what it writes, it ends as other programs
+    do, without a word.
     """
+    signal.signal(signal.SIGPIPE, signal.SIG_DFL)
     for number in (signal.SIGINT, signal.SIGTERM, signal.SIGHUP):
         if signal.getsignal(number) != signal.SIG_IGN:
             signal.signal(number, _stop)
@@ -108,7 +109,7 @@ def _hand_on(words: Sequence[str]) -> int:
     beside = os.path.join(sysconfig.get_path("scripts"), "bearoff")
     program = beside if os.access(beside, os.X_OK) else shutil.which("bearoff")
     if program is None:
-        return _fail(1, f"{words[0]} is a command of the program bearoff, which isn't found here")
+        return _fail(1, f"{words[0]} is a command of the program bearoff, which was not found")
     # Python itself ignores these
     for number in (signal.SIGPIPE, signal.SIGXFSZ):
         signal.signal(number, signal.SIG_DFL)
@@ -136,52 +137,54 @@ def _parser() -> argparse.ArgumentParser:
     ) -> argparse.ArgumentParser:
         told = f"{what[0].upper()}{what[1:]}. {more}".strip()
         added = commands.add_parser(name, help=what, description=told)
-        added.set_defaults(run=run)
+        added.set_defaults(run=run, status=0)
         return added
 
     def takes_database(added: argparse.ArgumentParser) -> None:
         added.add_argument("--database", metavar="FILE", help=_FILE)
 
     for name, run, what in (
-        ("mean", _mean, "tell the least mean number of rolls"),
-        ("epc", _epc, "tell the effective pip count and the wastage"),
+        ("mean", _mean, "print the minimum expected number of rolls"),
+        ("epc", _epc, "print the effective pip count and the wastage"),
     ):
         added = command(name, run, what)
-        added.add_argument("positions", nargs="+", metavar="POSITION", help=_POSITION)
+        added.add_argument("positions", nargs="+", metavar="POSITION", help=_POSITIONS)
         takes_database(added)
     for name, run, what in (
-        ("play", _play, "tell the best play of a roll"),
-        ("moves", _moves, "tell what each play of a roll costs"),
+        ("play", _play, "print the best play of a roll"),
+        ("moves", _moves, "print what each play of a roll loses"),
     ):
         added = command(name, run, what)
         added.add_argument("position", metavar="POSITION", help=_POSITION)
-        dice = "the two dice, as in 21 or 2-1; an XGID may tell them"
+        dice = "two dice, such as 21 or 2-1; an XGID can supply them"
         added.add_argument("roll", nargs="?", metavar="ROLL", help=dice)
         takes_database(added)
-    wins = command("wins", _wins, "tell the chance that the player on roll is off first", _WINS)
+    wins = command("wins", _wins, "print the chance that the player on roll is off first", _WINS)
     wins.add_argument("mine", metavar="MINE", help=f"the player on roll: {_POSITION}")
-    theirs = "the other player, where the first word doesn't tell both"
+    theirs = "the opponent, if the first argument has only one side"
     wins.add_argument("theirs", nargs="?", metavar="THEIRS", help=theirs)
     takes_database(wins)
-    what = "tell what each bearoff play of a match has lost"
-    grading = command("grade", _grade, what, f"It is told in rolls and in pips. {NOTE}")
-    match = "a .mat file, as GNU Backgammon and XG export it, or .sgf, as the first one saves it"
+    what = "list what each bearoff play of a match lost"
+    grading = command("grade", _grade, what, f"Losses are in rolls and in pips. {NOTE}")
+    match = "a .mat file (GNU Backgammon, XG) or an .sgf file (GNU Backgammon)"
     grading.add_argument("match", metavar="MATCH", help=match)
-    grading.add_argument("database", nargs="?", metavar="DATABASE", help=_FILE)
-    grading.add_argument("--json", action="store_true", help="write JSON in place of tables")
+    grading.add_argument("--json", action="store_true", help="print JSON instead of tables")
+    takes_database(grading)
     table = command("export", _export, "write all positions as a table")
-    table.add_argument("file", metavar="FILE", help="its name ends in .csv, .json or .sqlite")
+    table.add_argument("file", metavar="FILE", help="a name that ends in .csv, .json or .sqlite")
     takes_database(table)
     files = command("gnubg", _compare, "write or compare a bearoff file of GNU Backgammon", _GNUBG)
     kinds = files.add_subparsers(required=True, metavar="write|compare")
     written = kinds.add_parser("write", help="write a one-sided file", description=_GNUBG)
-    written.add_argument("board", metavar="BOARD", help="what `bearoff build --board` has written")
+    written.add_argument(
+        "board", metavar="BOARD", help="a file that `bearoff build --board` wrote"
+    )
     written.add_argument("file", metavar="FILE", help="the file to write")
     written.set_defaults(run=_write)
-    told = "tell how far a one-sided file is from the exact numbers"
+    told = "measure how far a one-sided file is from the exact numbers"
     compared = kinds.add_parser("compare", help=told, description=_GNUBG)
-    compared.add_argument("file", metavar="FILE", help="a one-sided file, as gnubg_os0.bd")
-    compared.add_argument("board", nargs="?", metavar="BOARD", help=_FILE)
+    compared.add_argument("file", metavar="FILE", help="a one-sided file, such as gnubg_os0.bd")
+    takes_database(compared)
     compared.set_defaults(run=_compare)
     return parser
 
@@ -190,28 +193,61 @@ def _database(path: Optional[str], *positions: Position) -> Database:
     """The database of a file, or one that has these positions, or all where there are none."""
     if path is not None:
         return Database.open(path)
-    bounds = [Database.standing(position).pips for position in positions]
+    bounds = [Database.position_info(position).pips for position in positions]
     return Database.build(max(bounds, default=_WHOLE_BOARD))
 
 
 def _mean(asked: argparse.Namespace) -> str:
-    positions = [*map(position_of, asked.positions)]
-    database = _database(asked.database, *positions)
-    return "".join(
-        f"{position}: {float(mean):.6f} rolls, {mean}\n"
-        for position, mean in zip(positions, map(database.mean, positions))
-    )
+    def told(database: Database, position: Position) -> str:
+        mean = database.mean(position)
+        return f"{float(mean):.6f} rolls, {mean}"
+
+    return _told_of_each(asked, told)
 
 
 def _epc(asked: argparse.Namespace) -> str:
-    positions = [*map(position_of, asked.positions)]
-    database = _database(asked.database, *positions)
-    lines = []
-    for position in positions:
+    def told(database: Database, position: Position) -> str:
         epc, wastage = database.epc(position), database.wastage(position)
-        told = f"{_thousandths(epc)} pips, {epc.exact}; wastage {_thousandths(wastage)}"
-        lines.append(f"{position}: {told}\n")
+        return f"{_thousandths(epc)} pips, {epc}; wastage {_thousandths(wastage)}"
+
+    return _told_of_each(asked, told)
+
+
+def _told_of_each(asked: argparse.Namespace, told: Callable[[Database, Position], str]) -> str:
+    """A line for each position, or with the reason why it has no answer."""
+    read = [*map(_position_or_error, _each_text(asked.positions))]
+    positions = [it for it in read if isinstance(it, Position)]
+    lines = []
+    with _database(asked.database, *(positions or [_NOTHING])) as database:
+        for it in read:
+            try:
+                if isinstance(it, BearoffError):
+                    raise it
+                lines.append(f"{it}: {told(database, it)}\n")
+            except BearoffError as error:
+                asked.status = asked.status or (3 if isinstance(error, Refused) else 2)
+                lines.append(f"error: {printable(str(error))}\n")
     return "".join(lines)
+
+
+def _each_text(words: Sequence[str]) -> Iterator[str]:
+    """The words, with the lines of standard input in place of each -."""
+    for word in words:
+        if word == "-":
+            with open(0, encoding="utf-8", errors="replace", closefd=False) as lines:
+                yield from (line.rstrip("\n") for line in lines)
+        else:
+            yield word
+
+
+def _position_or_error(text: str) -> Union[Position, BearoffError]:
+    """The position of a text, of at most 15 checkers, or why it is none."""
+    try:
+        position = position_of(text)
+        Database.position_info(position)
+    except BearoffError as error:
+        return error
+    return position
 
 
 def _thousandths(number: Rounded) -> str:
@@ -223,7 +259,7 @@ def _asked_with_roll(asked: argparse.Namespace) -> Tuple[Position, str]:
     if asked.roll is not None:
         return race.mine, asked.roll
     if race.dice is None:
-        raise BadArgument("a roll is wanted behind the position, as in 21")
+        raise BadArgument("missing roll after the position, for example 21")
     return race.mine, "{}{}".format(*race.dice)
 
 
@@ -271,7 +307,7 @@ def _write(asked: argparse.Namespace) -> str:
 def _compare(asked: argparse.Namespace) -> str:
     with open(asked.file, "rb") as file:
         content = file.read(MOST_MATCH)
-    found = gnubg.compare(content, _database(asked.board))
+    found = gnubg.compare(content, _database(asked.database))
     lines: Dict[str, str] = {
         "positions": str(found.positions),
         "greatest difference of a mean": f"{float(found.greatest):.9f} rolls at {found.at}",

@@ -29,10 +29,13 @@ _MORE_STACK = 4 << 20
 # what the library's structs hold, and rooms for one of them
 PLAY = Struct("=8BB6B")
 COUNTS = Struct("=6B")
-STANDING = Struct("=3B")
+POSITION_INFO = Struct("=3B")
+RACE = Struct("=16B")
 PlayRoom = ctypes.c_char * PLAY.size
 CountsRoom = ctypes.c_char * COUNTS.size
-StandingRoom = ctypes.c_char * STANDING.size
+PositionInfoRoom = ctypes.c_char * POSITION_INFO.size
+RaceRoom = ctypes.c_char * RACE.size
+PlaceRoom = ctypes.c_char * 1
 
 
 # .. and those with numbers, which have three words of 64 bits each, the greatest first
@@ -96,7 +99,8 @@ _LONG_CALLS: _Calls = {
 # .. and those that are over before another thread could have begun; what takes pointers alone is
 # given them as they are, since to convert them would cost a third of the call
 _SHORT_CALLS: _Calls = {
-    "standing": None,
+    "position_info": None,
+    "read_position": (_POINTER, _SIZE, _POINTER, _POINTER),
     "play_to": (_POINTER, _BYTE, _BYTE, _POINTER, _POINTER),
     "about": None,
     "rank": None,
@@ -161,10 +165,16 @@ def _path() -> str:
         return named
     beside = Path(__file__).with_name("libbearoff.so")
     found = str(beside) if beside.exists() else ctypes.util.find_library("bearoff")
+    # in a checkout, what `make unproved` compiled: it says itself that it is not proved
+    checkout = Path(__file__).resolve().parent.parent.parent
+    unproved = checkout / "out/unproved/library/libbearoff.so"
+    if not found and unproved.exists():
+        found = str(unproved)
     if not found:
         raise NoLibrary(
-            "libbearoff is not installed, and BEAROFF_LIBRARY doesn't name it: the wheel of a"
-            " release has it in it, and `make install` puts it there"
+            "libbearoff is missing: install the wheel of a release, or set BEAROFF_LIBRARY to the"
+            " library's path; in a checkout, run `make unproved`, which compiles it without a"
+            " proof in some minutes, or `packaging/library DIR`, which proves it first"
         )
     return found
 

@@ -6,7 +6,7 @@ from __future__ import annotations
 
 import ctypes
 from fractions import Fraction
-from typing import List, Optional, Tuple, TypeVar
+from typing import Optional, Tuple
 
 from . import _library as lib
 from .errors import NOT_OPEN, Damaged
@@ -21,8 +21,6 @@ MOST_PIPS = 58
 MOST_OF_BOARD = 90
 
 _BOARD_VERSION = 3
-
-_Words = TypeVar("_Words", memoryview, Tuple[int, ...])
 
 
 class Opened:
@@ -52,7 +50,7 @@ class Opened:
         self.bound: int = about.bound
         # the most rolls that have a share, and the denominator of each number
         self.rolls: int = about.rolls
-        self.whole: int = 36**self.rolls
+        self.denominator: int = 36**self.rolls
         self.length: int = about.positions
 
     def check(self) -> None:
@@ -80,16 +78,9 @@ class Opened:
         """The status of a call that asks nothing but whether it is open."""
         return 0 if self.struct.is_open else NOT_OPEN
 
-    @property
-    def words(self) -> int:
-        """How many words a number of a table has: two of a database, of which the greatest of the
-        library's three is always 0.
-        """
-        return lib.WORDS if self.version == _BOARD_VERSION else lib.WORDS - 1
-
     def share(self, *words: int) -> Fraction:
         """A numerator over the whole."""
-        return over_whole(wide_number(*words), self.whole)
+        return over_whole(wide_number(*words), self.denominator)
 
     def rank(self, counts: bytes) -> Tuple[int, int]:
         """The status, and the rank of a position."""
@@ -100,42 +91,6 @@ class Opened:
         """.. and the counts of the position of a rank."""
         told = lib.CountsRoom()
         return self.library.position_of(self.at, rank, told), told.raw
-
-    def list_positions(self, room: bytearray, count: int) -> int:
-        """Writes so many positions, by rising rank, and tells the status; so of what follows."""
-        status: int = self.library.listed_positions(self.at, 0, lib.address(room), count)
-        return status
-
-    def list_means(self, room: bytearray, count: int) -> int:
-        return self._list("means", lib.NUMBER.size, [0], room, count)
-
-    def list_epcs(self, room: bytearray, count: int) -> int:
-        return self._list("epcs", lib.PIPS.size, [0, lib.WORDS], room, count)
-
-    def list_distributions(self, room: bytearray, count: int) -> int:
-        numbers = range(0, lib.WORDS * (self.rolls + 1), lib.WORDS)
-        return self._list("distributions", lib.SHARES.size, [*numbers], room, count)
-
-    def _list(self, name: str, size: int, numbers: List[int], room: bytearray, count: int) -> int:
-        """Writes what a table of the library has, whose rows have so many bytes, and numbers from
-        these words on: of a database without their greatest words, and without the shares that
-        none of its positions has.
-        """
-        call = getattr(self.library, "listed_" + name)
-        status: int
-        if self.version == _BOARD_VERSION:
-            status = call(self.at, 0, lib.address(room), count)
-            return status
-        wide = bytearray(size * count)
-        status = call(self.at, 0, lib.address(wide), count)
-        if status == 0:
-            told, kept = memoryview(wide).cast("Q"), memoryview(room).cast("Q")
-            places = [place + word for place in numbers for word in range(1, lib.WORDS)]
-            if name == "epcs":
-                places.append(2 * lib.WORDS)
-            for column, place in enumerate(places):
-                kept[column :: len(places)] = told[place :: size // 8]
-        return status
 
 
 def fraction_of(*words: int) -> Fraction:

@@ -1,4 +1,4 @@
-"""A database, and what can be asked of it."""
+"""The class Database: a verified bearoff database and its queries."""
 
 from __future__ import annotations
 
@@ -7,12 +7,14 @@ import os
 from array import array
 from fractions import Fraction
 from hashlib import sha256
-from itertools import accumulate
+from itertools import accumulate, chain, repeat
+from math import prod, sqrt
 from operator import index, truediv
 from types import TracebackType
 from typing import (
     Any,
     Dict,
+    Iterable,
     Iterator,
     List,
     Literal,
@@ -31,7 +33,7 @@ from .errors import (
     NO_RANK,
     NOT_OPEN,
     OVER_BOUND,
-    SHORT,
+    BUFFER_TOO_SMALL,
     TOO_MANY,
     BadArgument,
     BearoffError,
@@ -52,7 +54,7 @@ from .positions import (
     Move,
     Play,
     Position,
-    Standing,
+    PositionInfo,
     Wastage,
     bound_of,
     counts_after,
@@ -71,32 +73,35 @@ Source = Union[str, "os.PathLike[str]", bytes, bytearray, memoryview]
 _Self = TypeVar("_Self", bound="Database")
 
 _LOW = (1 << 64) - 1
+_SHARES = lib.MOST_ROLLS + 1
 
-_Words = TypeVar("_Words", memoryview, Tuple[int, ...])
+# how many distributions are read at a time, which a cache of the processor holds
+_PART = 512
 
 
 class Database:
-    """A database that was checked and accepted, with a copy of its bytes of its own. It is the one
-    of a file that ``bearoff build`` writes, of at most 58 pips, or a board file, which ``bearoff
-    build --board`` writes: that has every position of the home board of at most its bound, which
-    is at most 90 pips, and its numbers are over 36^33, not 36^22. Both answer each call but
-    `upgrade`, and to 58 pips they say the same of a position.
+    """A verified database with its own copy of the bytes.
 
-    A position is six counts of checkers in a tuple, a list, an array or a `Position`, that of the
-    ace point first, or a text like ``0,0,0,0,0,1``, an XGID, a Position ID of GNU Backgammon or a
-    `Race`; a roll is two dice in either order, a text like ``21`` or ``2-1``, or the number 21; a
-    play is the position that it leads to, or its moves as in ``4/2 2/1``. What is none of these is
-    refused as `BadArgument`. Each query raises `Refused` where the position has more than 15
-    checkers or more pips than the bound, and where the database is closed.
+    It comes from a file that ``bearoff build`` writes, with positions of up to 58 pips, or from a
+    board file, which ``bearoff build --board`` writes, with positions of up to 90 pips. The
+    numbers of a board file are over 36^33 instead of 36^22. Both answer every call, except that a
+    board file has no `upgrade`, and they give the same answers up to 58 pips.
 
-    Its length is how many positions it has; it can be iterated over, by rising rank, asked whether
-    a position is in it, and indexed by ranks: ``database[-1]`` is its last position. It may be
-    used from any thread, copied, and pickled. A ``with`` statement closes it; nothing needs to be
-    closed, as what it holds is memory alone.
+    A position is six counts of checkers, the ace point first, in a tuple, list, array or
+    `Position`; or a text like ``0,0,0,0,0,1``, an XGID, a Position ID of GNU Backgammon or a
+    `Race`. A roll is two dice in either order, a text like ``21`` or ``2-1``, or the number 21. A
+    play is the resulting position, or moves like ``4/2 2/1``. Anything else raises `BadArgument`.
+    Each query raises `Refused` if the position has more than 15 checkers or more pips than the
+    bound, or if the database is closed.
+
+    ``len`` gives the number of positions, iteration goes over them by rank, ``in`` tests for a
+    position, and an index is a rank: ``database[-1]`` is the last position. A database can be used
+    from any thread, copied and pickled. A ``with`` statement closes it; closing is optional, since
+    it holds only memory.
     """
 
     def __init__(self, content: Union[bytes, bytearray, memoryview]) -> None:
-        """Takes the bytes of a file and checks them, as `open` does."""
+        """Verifies the bytes of a file, as `open` does."""
         opened = Opened(lib.library(), _bytes_of(content))
         opened.check()
         self._opened = opened
@@ -104,11 +109,10 @@ class Database:
 
     @classmethod
     def open(cls: Type[_Self], source: Source) -> _Self:
-        """Reads a file, or takes bytes, and checks them: 0.2 s for 44 pips, 0.3 s for 58, 0.4 s
-        for a board of 90. Which kind of file they are is told by the version in their header: they
-        are a board file where it is 3.
+        """Opens a path or bytes and verifies them: 0.2 s for 44 pips, 0.3 s for 58, 0.4 s for a
+        board file of 90. A file whose header has version 3 is a board file.
 
-        Raises `Damaged` where they are no right database, and OSError where a file can't be read.
+        Raises `Damaged` if they are not a right file, and OSError if the file can't be read.
         """
         if isinstance(source, (str, os.PathLike)):
             content = _read(source)
@@ -123,13 +127,12 @@ class Database:
 
     @classmethod
     def build(cls: Type[_Self], bound: SupportsIndex) -> _Self:
-        """Builds the database of a pip bound, 0 to 90, and checks it: half a second for 58 pips,
-        a second for 90. To 58 pips its bytes are those of the file that ``bearoff build`` writes,
-        and beyond them those of a board file, that of 90 the one that ``bearoff build --board``
-        writes; ``bytes(database)`` gives them.
+        """Builds a database of a pip bound, 0 to 90, and verifies it: half a second for 58 pips, a
+        second for 90. Up to 58 pips, ``bytes(database)`` is what ``bearoff build`` writes; above,
+        it is a board file, and for 90 what ``bearoff build --board`` writes.
 
-        Raises `BadArgument` where the bound is no whole number from 0 on, and `Refused` where it
-        is over 90.
+        Raises `BadArgument` if the bound is not a whole number from 0 on, and `Refused` if it is
+        over 90.
         """
         most = bound_of(bound)
         status, content = build(lib.library(), most, usual_version(most))
@@ -139,12 +142,12 @@ class Database:
         return cls(content)
 
     def close(self) -> None:
-        """Lets the bytes go. Every query of a closed database raises `Refused`."""
+        """Releases the bytes. Every query of a closed database raises `Refused`."""
         self._opened = Opened(self._opened.library, b"")
 
     @property
     def closed(self) -> bool:
-        """Whether it was closed."""
+        """Whether the database was closed."""
         return not self._opened.struct.is_open
 
     def __enter__(self: _Self) -> _Self:
@@ -161,30 +164,33 @@ class Database:
 
     @property
     def version(self) -> int:
-        """The version of its file: 1, or 2 where records leave out the shares that are known, or 3
-        where it is a board file.
-        """
+        """The version of the file: 1, 2 (without the shares that are known), or 3 (board file)."""
         return _asked(self._opened).version
 
     @property
     def bound(self) -> int:
-        """The greatest pip count of its positions."""
+        """The greatest pip count."""
         return _asked(self._opened).bound
 
     @property
-    def whole(self) -> int:
-        """The denominator over which all its means and shares are numerators: 36^22, or 36^33 of a
-        board file.
+    def denominator(self) -> int:
+        """The denominator of all means and shares: 36^22, or 36^33 for a board file."""
+        return _asked(self._opened).denominator
+
+    @property
+    def weights(self) -> Tuple[float, float, float]:
+        """What the three words of a numerator count, as floats: in numpy, ``table @ weights`` turns
+        numerators of `means`, `cdf` or `distributions` into rolls or chances, with a relative error
+        of less than 1e-15.
         """
-        return _asked(self._opened).whole
+        whole = self.denominator
+        return 2**128 / whole, 2**64 / whole, 1 / whole
 
     def __len__(self) -> int:
         return _asked(self._opened).length
 
     def __contains__(self, position: object) -> bool:
-        """Whether it is a position, of at most 15 checkers, and of at most as many pips as the
-        bound.
-        """
+        """Whether it is a position of at most 15 checkers and within the bound."""
         opened = self._opened
         try:
             counts = counts_of(position)  # type: ignore[arg-type]
@@ -210,8 +216,8 @@ class Database:
         ...
 
     def __getitem__(self, rank: Union[SupportsIndex, slice]) -> Union[Position, List[Position]]:
-        """The position of a rank, or the positions of a slice of the ranks; -1 is the last rank.
-        Raises `OutOfRange` where there is no such rank.
+        """The position of a rank, or the positions of a slice of ranks; -1 is the last rank.
+        Raises `OutOfRange` if there is no such rank.
         """
         if isinstance(rank, slice):
             _places(rank, 0)
@@ -226,7 +232,7 @@ class Database:
         return True
 
     def __bytes__(self) -> bytes:
-        """The bytes of its file."""
+        """The bytes of the file."""
         return _asked(self._opened).content
 
     def __repr__(self) -> str:
@@ -237,7 +243,7 @@ class Database:
         return f"<bearoff.Database: {kind}{path}>"
 
     def __copy__(self: _Self) -> _Self:
-        """Another one of the same bytes, which closing this one leaves open."""
+        """A database of the same bytes; closing one leaves the other open."""
         copied = type(self).__new__(type(self))
         copied.__dict__.update(self.__dict__)
         return copied
@@ -246,38 +252,33 @@ class Database:
         return self.__copy__()
 
     def __reduce__(self) -> Tuple[Any, ...]:
-        """It is pickled by its path, if it was opened so, or else by its bytes, and is checked
-        anew.
-        """
+        """Pickles the path that it was opened by, or else the bytes; loading verifies again."""
         content = bytes(self)
         if self._path is None:
             return type(self), (content,)
         return _reopen, (type(self), self._path, sha256(content).hexdigest())
 
     def rank(self, position: AnyPosition) -> int:
-        """How many positions are before it: those of fewer pips, and of as many those with the
-        smaller counts, that of the ace point first.
+        """The rank: the number of positions before this one. Positions are sorted by pips, and
+        then by their counts, the ace point first.
         """
         status, rank = self._opened.rank(counts_of(position))
         _check(status, position)
         return rank
 
     def position(self, rank: SupportsIndex) -> Position:
-        """The position of a rank. Raises `Refused` where the rank is not below the number of
-        positions.
-        """
+        """The position of a rank. Raises `Refused` if the rank is not below ``len(database)``."""
         status, counts = self._opened.position(rank_of(rank))
         if status:
             raise Refused(status, shown(rank))
         return Position._make(counts)
 
     def ranks(self, positions: AnyPositions) -> memoryview:
-        """The ranks of many positions, in their order, as an array of numbers of 16 bits: the rows
-        of the tables below in which they stand. They come as an array of numpy or a memoryview of
-        any whole numbers, six in each row, or as any sequence of positions. The first time takes
-        10 ms more, for a table of all of them.
+        """The ranks of many positions, which are their rows in the tables below, as an array of
+        16-bit numbers. `positions` is a numpy array or memoryview of whole numbers with six per
+        row, or any sequence of positions. The first call takes 10 ms more, to make a table.
 
-        Raises what `rank` raises of the first row that has no rank, with the number of that row.
+        Raises what `rank` raises for the first row without a rank, with the number of that row.
         """
         opened = self._opened
         rows = rows_of(positions)
@@ -286,7 +287,7 @@ class Database:
         return opened.ranks.of(rows, _no_rank)
 
     def mean(self, position: AnyPosition) -> Fraction:
-        """The least mean number of rolls until all checkers are off, over all strategies."""
+        """The minimum expected number of rolls to bear off, over all strategies."""
         opened = self._opened
         told = lib.NumberRoom()
         status = opened.mean(opened.at, counts_of(position), told)
@@ -295,35 +296,33 @@ class Database:
         return opened.share(*lib.NUMBER.unpack(told))
 
     def epc(self, position: AnyPosition) -> EffectivePips:
-        """The effective pip count, in pips: a fraction, and in thousandths rounded to the nearest,
-        half up.
-        """
+        """The effective pip count in pips, a fraction with `thousandths` rounded half up."""
         opened = self._opened
         told = lib.PipsRoom()
         _check(opened.epc(opened.at, counts_of(position), told), position)
         return EffectivePips(fraction_of(*lib.PIPS.unpack(told)[: 2 * lib.WORDS]))
 
     def wastage(self, position: AnyPosition) -> Wastage:
-        """The effective pip count less the pip count, in pips: a fraction, and in thousandths
-        rounded to the nearest, half up. It is 0 where no checker is left, and else above 0.
+        """The effective pip count minus the pip count, in pips. It is 0 if no checker is left, and
+        otherwise above 0.
         """
-        return Wastage(self.epc(position) - self.standing(position).pips)
+        return Wastage(self.epc(position) - self.position_info(position).pips)
 
     def distribution(self, position: AnyPosition) -> Tuple[Fraction, ...]:
-        """The chances of being off in exactly 0 to 22 rolls, by the recorded plays, of a board
-        file 0 to 33. They sum to 1.
+        """The probabilities of exactly 0 to 22 rolls (0 to 33 for a board file) with the recorded
+        plays. They sum to 1.
         """
         opened = self._opened
         told = lib.SharesRoom()
         _check(opened.distribution(opened.at, counts_of(position), told), position)
-        columns = _columns(lib.SHARES.unpack(told), lib.WORDS)
-        return tuple(map(opened.share, *(column[: opened.rolls + 1] for column in columns)))
+        shares = lib.SHARES.unpack(told)[: lib.WORDS * (opened.rolls + 1)]
+        return tuple(map(opened.share, *(shares[word :: lib.WORDS] for word in range(lib.WORDS))))
 
     def within(self, position: AnyPosition, rolls: SupportsIndex) -> Fraction:
-        """The chance of being off in at most so many rolls, by the recorded plays. From 22 rolls
-        on, and of a board file from 33 on, it is 1.
+        """The chance to be off within `rolls` rolls with the recorded plays. It is 1 from 22 rolls
+        on (33 for a board file).
 
-        Raises `BadArgument` where the number of rolls is no whole number from 0 on.
+        Raises `BadArgument` if `rolls` is not a whole number from 0 on.
         """
         opened = self._opened
         counts = counts_of(position)
@@ -332,20 +331,32 @@ class Database:
         _check(opened.within(opened.at, counts, asked, told), position)
         return opened.share(*lib.CHANCE.unpack(told)[: lib.WORDS])
 
+    def variance(self, position: AnyPosition) -> Fraction:
+        """The variance of the number of rolls, in rolls squared, by the recorded plays."""
+        shares = self.distribution(position)
+        mean, squares = (
+            sum((rolls**power * share for rolls, share in enumerate(shares)), Fraction(0))
+            for power in (1, 2)
+        )
+        return squares - mean**2
+
+    def standard_deviation(self, position: AnyPosition) -> float:
+        """The standard deviation of the number of rolls: the square root of `variance`."""
+        return sqrt(self.variance(position))
+
     def wins(
         self,
         mine: AnyPosition,
         theirs: Optional[AnyPosition] = None,
         on_roll: Literal["mine", "theirs"] = "mine",
     ) -> Fraction:
-        """The chance that `mine` is off before `theirs`, where the players roll in turn and both
-        make the recorded plays. `mine` rolls first, unless `on_roll` says ``theirs``. Where
-        `theirs` is missing both sides are those of one `Race`, XGID or Position ID.
+        """The chance that `mine` is off before `theirs` if both players make the recorded plays.
+        `mine` rolls first, unless `on_roll` is ``theirs``. Without `theirs`, both sides come from
+        one `Race`, XGID or Position ID.
 
-        It is exact of these plays, which take the fewest rolls in the mean, and are no plays for
-        the win: in most races others win more often, so it is some tenths of a point of a hundred,
-        or a point and more, below or above the chance of two best players. It says nothing of the
-        cube. Raises `BadArgument` where one side isn't told.
+        The chance is exact for these plays, which minimize the expected number of rolls. Other
+        plays usually win slightly more often, sometimes by over 1 %. The cube is left out. Raises
+        `BadArgument` if a side is missing.
         """
         if on_roll not in ("mine", "theirs"):
             raise BadArgument(f"who is on roll is mine or theirs: {shown(on_roll)}")
@@ -360,99 +371,85 @@ class Database:
         return chance
 
     @staticmethod
-    def standing(position: AnyPosition) -> Standing:
-        """The pips and the checkers of a position, and how many of 15 are borne off. It needs no
-        database. Raises `Refused` where there are more than 15 checkers.
+    def position_info(position: AnyPosition) -> PositionInfo:
+        """The pips and checkers of a position. It needs no database. Raises `Refused` if there are
+        more than 15 checkers.
         """
-        told = lib.StandingRoom()
-        _check(lib.library().standing(counts_of(position), told), position)
-        return Standing._make(lib.STANDING.unpack(told))
+        told = lib.PositionInfoRoom()
+        _check(lib.library().position_info(counts_of(position), told), position)
+        return PositionInfo._make(lib.POSITION_INFO.unpack(told))
 
     def positions(self) -> memoryview:
-        """All positions by rising rank, as an array of bytes with six counts in each row."""
+        """All positions by rank, as an array of bytes with six counts per row."""
         return _table(self._opened, "positions", "B", 6)
 
-    def means(self, *, floats: bool = False) -> memoryview:
-        """The means of all positions by rising rank, in rolls, as an array of numbers of 64 bits
-        with two in each row: the high and the low half of the numerator over 36^22. Of a board
-        file each row has three: the words of the numerator over 36^33, the greatest first. With
-        `floats` it is an array of floats, one for each position, each the float that is nearest to
-        the exact number; so of each table below.
+    def means(self, *, words: bool = False) -> memoryview:
+        """The means of all positions by rank, in rolls, as an array of floats, each the nearest to
+        the exact number. With `words`, it is an array of 64-bit numbers with three per row: the
+        words of the numerator over `denominator`, most significant first. The tables below do the
+        same.
         """
         opened = self._opened
-        table = _table(opened, "means", "Q", opened.words)
-        return _floats_over_whole(opened, table, len(table)) if floats else table
+        table = _table(opened, "means", "Q", lib.WORDS)
+        return table if words else _floats(wide_numbers(table), repeat(opened.denominator))
 
-    def epcs(self, *, floats: bool = False) -> memoryview:
-        """The effective pip counts of all positions by rising rank, in pips, as an array of
-        numbers of 64 bits with five in each row: the halves of the numerator, those of the
-        denominator, and the thousandths. Of a board file there are seven: three words, three, and
-        the thousandths.
+    def epcs(self, *, words: bool = False) -> memoryview:
+        """The effective pip counts of all positions by rank, in pips. With `words`, each row has
+        seven numbers: the words of the numerator, those of the denominator, and the thousandths.
         """
-        opened = self._opened
-        table = _table(opened, "epcs", "Q", 2 * opened.words + 1)
-        return _floats_of_fractions(opened, table) if floats else table
+        table = _table(self._opened, "epcs", "Q", 2 * lib.WORDS + 1)
+        return table if words else _floats(wide_numbers(table), wide_numbers(table, lib.WORDS))
 
-    def wastages(self, *, floats: bool = False) -> memoryview:
-        """The wastages of all positions by rising rank, in pips, as those of `epcs`. None is below
-        0.
-        """
+    def wastages(self, *, words: bool = False) -> memoryview:
+        """The wastages of all positions by rank, in pips, like `epcs`. None is negative."""
         opened = self._opened
-        words = opened.words
-        table = _table(opened, "epcs", "Q", 2 * words + 1)
-        flat = table.cast("B").cast("Q")
+        table, pips = _table(opened, "epcs", "Q", 2 * lib.WORDS + 1), _pips(opened)
+        denominators = wide_numbers(table, lib.WORDS)
         # what is taken from the numerator is so many times the denominator, so the terms stay the
         # lowest
-        columns = [column.tolist() for column in _columns(flat, 2 * words + 1)]
-        denominators = [*wide_numbers(*columns[words:-1])]
-        pips = _pips(opened)
         numerators = [
             numerator - denominator * count
-            for numerator, denominator, count in zip(
-                wide_numbers(*columns[:words]), denominators, pips
-            )
+            for numerator, denominator, count in zip(wide_numbers(table), denominators, pips)
         ]
-        _set_columns(flat, 2 * words + 1, words, numerators)
-        flat[2 * words :: 2 * words + 1] = _column(
-            told - 1000 * count for told, count in zip(columns[-1], pips)
-        )
-        return _floats_of_fractions(opened, table) if floats else table
+        if not words:
+            return _floats(numerators, denominators)
+        _set_numbers(table, numerators)
+        told = table.cast("B").cast("Q")[2 * lib.WORDS :: 2 * lib.WORDS + 1]
+        wasted = [thousandths - 1000 * count for thousandths, count in zip(told, pips)]
+        told[:] = memoryview(array("Q", wasted))
+        return table
 
-    def distributions(self, *, floats: bool = False) -> memoryview:
-        """The distributions of all positions by rising rank, as an array of numbers of 64 bits: of
-        each position, for 0 to 22 rolls, the high and the low half of the numerator over 36^22,
-        and of a board file, for 0 to 33 rolls, the three words of that over 36^33. With `floats`
-        there is a float for each number of rolls.
+    def distributions(self, *, words: bool = False) -> memoryview:
+        """The distributions of all positions by rank, with one float per number of rolls in each
+        row: 0 to 22, or 0 to 33 for a board file. With `words`, each row has 34 numerators of three
+        words.
         """
         opened = self._opened
+        if words:
+            return _table(opened, "distributions", "Q", _SHARES, lib.WORDS)
         shares = opened.rolls + 1
-        table = _table(opened, "distributions", "Q", shares, opened.words)
-        return _floats_over_whole(opened, table, len(table), shares) if floats else table
+        numerators = chain.from_iterable(share_rows(opened, shares))
+        floats = _floats(numerators, repeat(opened.denominator))
+        return floats.cast("B").cast("d", (len(floats) // shares, shares))
 
-    def withins(self, rolls: SupportsIndex, *, floats: bool = False) -> memoryview:
-        """The chances of being off in at most so many rolls, of all positions by rising rank, as
-        those of `means`. Raises `BadArgument` where the number of rolls is no whole number from 0
-        on.
+    def cdf(self, rolls: SupportsIndex, *, words: bool = False) -> memoryview:
+        """The chance of each position, by rank, to be off within `rolls` rolls, in the form that
+        `means` has. Raises `BadArgument` if `rolls` is not a whole number from 0 on.
         """
         opened = self._opened
-        words, shares = opened.words, opened.rolls + 1
         asked = rolls_of(rolls, opened.rolls)
-        flat = _table(opened, "distributions", "Q", shares, words).cast("B").cast("Q")
-        columns = _columns(flat, words * shares)[: words * (asked + 1)]
-        sums = [
-            map(sum, zip(*(column.tolist() for column in columns[word::words])))
-            for word in range(words)
-        ]
-        numerators = [*wide_numbers(*sums)]
-        table = memoryview(bytearray(8 * words * len(numerators))).cast("Q")
-        _set_columns(table, words, words, numerators)
-        shaped = table.cast("B").cast("Q", (len(numerators), words))
-        return _floats_over_whole(opened, shaped, len(numerators)) if floats else shaped
+        numerators = [sum(row) for row in share_rows(opened, asked + 1)]
+        if not words:
+            return _floats(numerators, repeat(opened.denominator))
+        room = bytearray(lib.NUMBER.size * len(numerators))
+        table = memoryview(room).cast("Q", (len(numerators), lib.WORDS))
+        _set_numbers(table, numerators)
+        return table
 
     def play(self, position: AnyPosition, roll: AnyRoll) -> Play:
-        """The recorded play of a roll: none has a smaller mean, and others may be as good.
+        """The recorded play of a roll. No play has a smaller mean; others may be equally good.
 
-        Raises `Refused` also where a die isn't 1 to 6, or no checker is left.
+        Also raises `Refused` if a die isn't 1 to 6 or no checker is left.
         """
         told = lib.PlayRoom()
         opened = self._opened
@@ -463,11 +460,11 @@ class Database:
 
     @staticmethod
     def play_to(position: AnyPosition, roll: AnyRoll, to: AnyPlay) -> Play:
-        """The first play of a roll that leads from one position to where another play, or a
-        position, leads, good or not. It needs no database.
+        """The first play of a roll that leads to the position, or the result of the play, `to`,
+        good or bad. It needs no database.
 
-        Raises `Refused` where a die isn't 1 to 6, a position has more than 15 checkers, or the
-        roll doesn't lead to `to`.
+        Raises `Refused` if a die isn't 1 to 6, a position has more than 15 checkers, or the roll
+        doesn't lead to `to`.
         """
         told = lib.PlayRoom()
         counts, (one, other) = counts_of(position), dice_of(roll)
@@ -476,10 +473,10 @@ class Database:
         return _play_of(lib.PLAY.unpack(told))
 
     def loss(self, position: AnyPosition, roll: AnyRoll, to: AnyPlay) -> Fraction:
-        """What a play costs, in rolls, beside the best one: one to the position `to`, or the play
-        `to`. It is 0 for a best play.
+        """What a play loses in rolls compared with the best one. `to` is the play or the resulting
+        position. It is 0 for a best play.
 
-        Raises `Refused` as `play` does, and where the roll doesn't lead to `to`.
+        Raises `Refused` as `play` does, and if the roll doesn't lead to `to`.
         """
         opened = self._opened
         told = lib.FractionRoom()
@@ -489,8 +486,8 @@ class Database:
         return fraction_of(*lib.FRACTION.unpack(told))
 
     def moves(self, position: AnyPosition, roll: AnyRoll) -> List[Choice]:
-        """Every position that a roll can lead to, once, the best first, and of equal ones the
-        lower rank first; each with what it costs, in rolls. Raises `Refused` as `play` does.
+        """Each position that a roll can lead to once, with its loss in rolls, sorted by loss and
+        then by rank. Raises `Refused` as `play` does.
         """
         opened = self._opened
         counts = counts_of(position)
@@ -501,7 +498,7 @@ class Database:
             status = opened.moves(
                 opened.at, counts, one, other, lib.address(results), room, ctypes.byref(count)
             )
-            if status != SHORT:
+            if status != BUFFER_TOO_SMALL:
                 break
         _check(status, position, roll)
         told = memoryview(results)[: count.value * lib.RESULT.size]
@@ -511,9 +508,8 @@ class Database:
         ]
 
     def answer(self, line: str) -> str:
-        """What ``bearoff query`` writes for a line, which is given without its line ending, as in
-        ``mean 0,0,0,0,0,1``. A line that asks nothing, or is refused, is answered too, by a text
-        that begins with ``error``.
+        """The reply of ``bearoff query`` to a line, without line ending, such as
+        ``mean 0,0,0,0,0,1``. A line that is not a query gets a reply that starts with ``error``.
         """
         if not isinstance(line, str):
             raise BadArgument(f"not a line, which is a text as in mean 0,0,0,0,0,1: {shown(line)}")
@@ -526,14 +522,14 @@ class Database:
             status = opened.answer_line(
                 opened.at, asked, len(asked), text, room, ctypes.byref(needed)
             )
-            if status != SHORT:
+            if status != BUFFER_TOO_SMALL:
                 break
         _check(status)
         return text.raw[: needed.value].decode("ascii")
 
     def upgrade(self) -> bytes:
-        """The bytes of a file of version 2 that says the same: of the same bound, means, plays and
-        shares. Raises `Refused` where the database is of version 2 already, or of a board file.
+        """The bytes of a version 2 file with the same bound, means, plays and shares. Raises
+        `Refused` for a database of version 2 and for a board file.
         """
         opened = self._opened
         content = bytes(self)
@@ -619,59 +615,45 @@ def _play_of(numbers: Tuple[int, ...]) -> Play:
     return Play(tuple(map(Move._make, moves)), Position._make(to))
 
 
-def _column(numbers: Iterator[int]) -> memoryview:
-    """Numbers of 64 bits, as what a column of a table can be set to."""
-    return memoryview(array("Q", numbers)).cast("B").cast("Q")
-
-
-def _columns(flat: _Words, count: int) -> List[_Words]:
-    """The columns of a table of so many of them."""
-    return [flat[place::count] for place in range(count)]
-
-
-def _set_columns(flat: memoryview, count: int, words: int, numbers: List[int]) -> None:
-    """Sets the first columns of a table to the words of numbers, the greatest first."""
-    for place in range(words):
-        shift = 64 * (words - 1 - place)
-        flat[place::count] = _column(number >> shift & _LOW for number in numbers)
+def _set_numbers(table: memoryview, numbers: List[int]) -> None:
+    """Sets the first number of each row of a table of words."""
+    flat = table.cast("B").cast("Q")
+    row = len(flat) // len(table)
+    for word in range(lib.WORDS):
+        shift = 64 * (lib.WORDS - 1 - word)
+        flat[word::row] = memoryview(array("Q", [number >> shift & _LOW for number in numbers]))
 
 
 def _pips(opened: Opened) -> List[int]:
     """The pip counts of all positions by rising rank."""
     flat = _table(opened, "positions", "B", 6).cast("B")
-    columns = [column.tolist() for column in _columns(flat, 6)]
-    return [sum(map(int.__mul__, range(1, 7), counts)) for counts in zip(*columns)]
+    columns = (flat[point::6].tolist() for point in range(6))
+    return [a + 2 * b + 3 * c + 4 * d + 5 * e + 6 * f for a, b, c, d, e, f in zip(*columns)]
 
 
-def _floats_over_whole(opened: Opened, table: memoryview, *shape: int) -> memoryview:
-    """The floats of a table of numerators over 36^22, or over 36^33."""
-    columns = _columns(table.cast("B").cast("Q"), opened.words)
-    numbers = wide_numbers(*(column.tolist() for column in columns))
-    whole = opened.whole
-    return _floats((numerator / whole for numerator in numbers), *shape)
+def share_rows(opened: Opened, shares: int) -> Iterator[Tuple[int, ...]]:
+    """The numerators of the first shares of each position, by rising rank."""
+    ranks = range(_asked(opened).length)
+    for first in ranks[::_PART]:
+        some = ranks[first : first + _PART]
+        part = _table(opened, "distributions", "Q", _SHARES, lib.WORDS, ranks=some)
+        yield from zip(*(wide_numbers(part, lib.WORDS * share) for share in range(shares)))
 
 
-def _floats_of_fractions(opened: Opened, table: memoryview) -> memoryview:
-    """The floats of a table of fractions, as `Database.epcs` has it."""
-    words = opened.words
-    columns = [column.tolist() for column in _columns(table.cast("B").cast("Q"), 2 * words + 1)]
-    numbers = map(truediv, wide_numbers(*columns[:words]), wide_numbers(*columns[words:-1]))
-    return _floats(numbers, len(table))
+def _floats(numerators: Iterable[int], denominators: Iterable[int]) -> memoryview:
+    """Fractions as an array of floats."""
+    return memoryview(array("d", map(truediv, numerators, denominators)))
 
 
-def _floats(numbers: Iterator[float], *shape: int) -> memoryview:
-    return memoryview(array("d", numbers)).cast("B").cast("d", shape)
-
-
-def _table(opened: Opened, name: str, kind: Literal["B", "Q"], *shape: int) -> memoryview:
-    """An array of all positions, which belongs to the caller."""
-    count = _asked(opened).length
-    size = 1 if kind == "B" else 8
-    for length in shape:
-        size *= length
-    room = bytearray(count * size)
-    _check(getattr(opened, "list_" + name)(room, count))
-    return memoryview(room).cast(kind, (count, *shape))
+def _table(
+    opened: Opened, name: str, kind: Literal["B", "Q"], *shape: int, ranks: Optional[range] = None
+) -> memoryview:
+    """An array of all positions, or of those of some ranks, which belongs to the caller."""
+    some = range(_asked(opened).length) if ranks is None else ranks
+    room = bytearray(len(some) * prod(shape) * (1 if kind == "B" else 8))
+    call = getattr(opened.library, "listed_" + name)
+    _check(call(opened.at, some.start, lib.address(room), len(some)))
+    return memoryview(room).cast(kind, (len(some), *shape))
 
 
 def _asked(opened: Opened) -> Opened:

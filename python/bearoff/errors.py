@@ -1,7 +1,6 @@
 """The errors of this package. Each is a `BearoffError`, and so a ValueError.
 
-What the system refuses stays what Python says of it: OSError where a file can't be read, and
-MemoryError.
+System errors stay Python's own: OSError and MemoryError.
 """
 
 from __future__ import annotations
@@ -14,7 +13,7 @@ NOT_OPEN = 1
 TOO_MANY = 3
 OVER_BOUND = 4
 NOT_LEGAL = 6
-SHORT = 8
+BUFFER_TOO_SMALL = 8
 NO_RANK = 10
 
 _REASONS = {
@@ -24,8 +23,8 @@ _REASONS = {
     OVER_BOUND: "more pips than the bound",
     5: "no checker is left",
     NOT_LEGAL: "the roll doesn't lead there",
-    7: "the bytes were changed since they were checked",
-    SHORT: "the room is too small",
+    7: "the bytes changed since they were verified",
+    BUFFER_TOO_SMALL: "the buffer is too small",
     9: "the file is of version 2 already",
     NO_RANK: "the database has no position of that rank",
     18: "the version is not 1 or 2",
@@ -34,26 +33,26 @@ _REASONS = {
 
 # why bytes are refused, by their first fault
 _FAULTS = {
-    "header too-short": "it has fewer bytes than any database",
-    "header bad-magic": "it doesn't begin as a file of bearoff does",
-    "header bad-version": "no version is known but 1, 2 and 3",
-    "header bad-length": "it has more or fewer bytes than its header says",
+    "header too-short": "it is shorter than any database",
+    "header bad-magic": "it doesn't start like a bearoff file",
+    "header bad-version": "only versions 1, 2 and 3 are known",
+    "header bad-length": "its length differs from the one in its header",
 }
 
 
 class BearoffError(ValueError):
-    """What every error of this package is."""
+    """The base class of all errors of this package."""
 
 
 class BadArgument(BearoffError):
-    """What was given is no position, roll, rank, pip bound, line or file at all; so is a view of
-    memory that was released, and a text that is longer than any of these.
+    """An argument is not a position, roll, rank, pip bound, line or file; this includes released
+    memory views and texts that are too long.
     """
 
 
-class NoRace(BadArgument):
-    """A text is no bearoff race, or can't be read as one, or a race can't be written. `reason` is
-    one of `bearoff.notation.REASONS`; the message says what is wrong, and of which text.
+class NotARace(BadArgument):
+    """A text is not a bearoff race, or a race can't be written. `reason` is one of
+    `bearoff.notation.REASONS`; the message says what is wrong and quotes the text.
     """
 
     def __init__(self, reason: str, line: str) -> None:
@@ -61,15 +60,15 @@ class NoRace(BadArgument):
         self.reason = reason
         self.line = line
 
-    def __reduce__(self) -> Tuple[Type[NoRace], Tuple[str, str]]:
+    def __reduce__(self) -> Tuple[Type[NotARace], Tuple[str, str]]:
         return type(self), (self.reason, self.line)
 
 
 class BadMatch(BadArgument):
-    """A text is no match, or one that can't be replayed. `reason` is ``malformed``, where it isn't
-    written as matches are; ``illegal``, where a play can't be made on the board; ``turn``, where a
-    player rolls who can't; or ``variation``, where it is another game than backgammon. `line` is
-    the number of the line, from 1 on; the message has it, what is wrong, and the line.
+    """A text is not a match, or can't be replayed. `reason` is ``malformed`` (not the format of a
+    match), ``illegal`` (a play is impossible), ``turn`` (the wrong player rolls) or ``variation``
+    (not backgammon). `line` is the line number, from 1. The message has the number, what is wrong,
+    and the line.
     """
 
     def __init__(self, reason: str, line: int, what: str, text: str = "") -> None:
@@ -86,13 +85,12 @@ class BadMatch(BadArgument):
 
 
 class Refused(BearoffError):
-    """The library gave no answer. `status` is the number that it gave instead, as in
-    ``bearoff.h``.
+    """The library refused a query. `status` is the number that it returned, as in ``bearoff.h``.
 
-    The message says why, and what was asked. Of several reasons it is the first of these: the
-    database is closed, a die isn't 1 to 6, a position has more than 15 checkers, the first one has
-    more pips than the bound or no checker left, the roll doesn't lead to the other one, or there
-    is no position of that rank. What is no position or roll at all is a `BadArgument` before that.
+    The message says why, and quotes the query. If several reasons apply, it is the first of these:
+    the database is closed, a die isn't 1 to 6, a position has more than 15 checkers, the first
+    position has more pips than the bound or no checker left, the roll doesn't lead to the other
+    position, or no position has that rank. `BadArgument` comes before all of these.
     """
 
     def __init__(self, status: int, asked: str = "") -> None:
@@ -106,18 +104,18 @@ class Refused(BearoffError):
 
 
 class OutOfRange(Refused, IndexError):
-    """A database was indexed by a rank that it hasn't."""
+    """An index is not a rank of the database."""
 
 
 class Damaged(BearoffError):
-    """The bytes are no right database. `line` names their first fault, as in ``mean rank 1``, and
-    `path` the file, where it was opened by its path.
+    """The bytes failed verification. `line` names the first fault, such as ``mean rank 1``, and
+    `path` the file, if it was opened by its path.
     """
 
     def __init__(self, status: int, line: str, path: Optional[str] = None) -> None:
         why = _FAULTS.get(line)
-        told = f"{line}, as {why}" if why else line
-        super().__init__(f"{in_ascii(path)}: no right database: {told}" if path else told)
+        what = f"{line} ({why})" if why else line
+        super().__init__(f"{in_ascii(path)}: not a valid database: {what}" if path else what)
         self.status = status
         self.line = line
         self.path = path
@@ -127,8 +125,8 @@ class Damaged(BearoffError):
 
 
 class Changed(BearoffError):
-    """The file of a database that was pickled isn't what it was then."""
+    """The file of a pickled database has changed."""
 
 
 class NoLibrary(BearoffError, OSError):
-    """The shared library isn't there, or is of a version that this package can't use."""
+    """The shared library is missing, or its version doesn't fit this package."""

@@ -7,16 +7,10 @@ import re
 import sys
 from decimal import Decimal
 from math import gcd
-from typing import Any, Callable, Iterable, Iterator
+from typing import Any, Callable, List
 
 WHOLE = 36**22
 """The denominator of every number in a database: 36 throws, and at most 22 rolls."""
-
-WEIGHTS = (2.0**64 / WHOLE, 1.0 / WHOLE)
-"""What the high and the low half of a numerator over 36^22 count, as floats: the halves, each
-times its weight, add up to the number of rolls, or to the chance, with a relative error of less
-than 1e-15. A number of a board file has three words, for which tables as floats are there.
-"""
 
 if sys.version_info >= (3, 12):
     from fractions import Fraction as Fraction
@@ -97,10 +91,11 @@ def wide_number(first: int, middle: int, last: int) -> int:
     return (first << 128) + (middle << 64) + last if first else (middle << 64) + last
 
 
-def wide_numbers(*words: Iterable[int]) -> Iterator[int]:
-    """The numbers of many words: all the greatest ones, and so on. They are two for a number of
-    128 bits, and three for one of 192.
-    """
-    if len(words) == 2:
-        return ((high << 64) + low for high, low in zip(*words))
-    return map(wide_number, *words)
+def wide_numbers(table: memoryview, place: int = 0) -> List[int]:
+    """The number of three words at a place of each row of a table of words."""
+    flat = table.cast("B").cast("Q")
+    row = len(flat) // len(table)
+    return [
+        (first << 128) + (middle << 64) + last if first else (middle << 64) + last
+        for first, middle, last in zip(*(flat[place + word :: row].tolist() for word in range(3)))
+    ]

@@ -14,9 +14,10 @@ from itertools import cycle, islice
 from math import comb
 from typing import Iterator, List, NamedTuple, Sequence, Tuple
 
-from .database import Database
+from ._library import MOST_ROLLS
+from .database import Database, share_rows
 from .errors import BadArgument
-from .exact import over_whole, wide_numbers
+from .exact import over_whole
 from .positions import Position
 
 __all__ = ["Compared", "compare", "to_file"]
@@ -31,9 +32,9 @@ _TOO_SHORT = "the one-sided bearoff file ends too early"
 
 
 class Compared(NamedTuple):
-    """A one-sided file beside the exact numbers: how many positions were compared; by how much a
-    mean differs at most, in rolls, at which position, and in the average; and by how much a share
-    differs at most.
+    """How a one-sided file differs from the exact numbers: the number of positions compared; the
+    greatest difference of a mean in rolls, and its position; the average difference; and the
+    greatest difference of a share.
     """
 
     positions: int
@@ -45,12 +46,12 @@ class Compared(NamedTuple):
 
 def to_file(database: Database) -> bytes:
     """The one-sided file of GNU Backgammon with the numbers of a database of the whole home board.
-    Raises `BadArgument` where the database has fewer positions.
+    Raises `BadArgument` if the database has fewer positions.
     """
     if len(database) != _ALL:
         what = f"the file has all {_ALL} positions, and this database {len(database)}"
-        raise BadArgument(f"{what}: a board file of 90 pips is wanted")
-    whole = database.whole
+        raise BadArgument(f"{what}: a board file of 90 pips is needed")
+    whole = database.denominator
     rows: List[Tuple[int, List[int]]] = [(0, [])] * _ALL
     for position, numerators in _numerators(database):
         shares = _rounded(numerators, whole)
@@ -68,9 +69,9 @@ def to_file(database: Database) -> bytes:
 
 def compare(content: bytes, database: Database) -> Compared:
     """How far a one-sided file of GNU Backgammon, of six points, is from the exact numbers, over
-    all positions of a database. Raises `BadArgument` where the bytes are no such file.
+    all positions of a database. Raises `BadArgument` if the bytes are not such a file.
     """
-    read, whole = _Reader(content), database.whole
+    read, whole = _Reader(content), database.denominator
     differences, greatest, share, at = [], -1, 0, Position(0, 0, 0, 0, 0, 0)
     for position, numerators in _numerators(database):
         told = read.shares(_place(position))
@@ -95,22 +96,12 @@ def _numerators(database: Database) -> Iterator[Tuple[Position, List[int]]]:
     """Each position with the numerators of the shares of 0 to 31 rolls; what takes more, which is
     less than any such file can say, is counted with 31.
     """
-    table = database.distributions()
-    words = table.shape[2]  # type: ignore[index]
-    flat = table.cast("B").cast("Q")
-    numbers = [*wide_numbers(*(flat[word::words].tolist() for word in range(words)))]
-    rolls = table.shape[1]  # type: ignore[index]
-    for rank, position in enumerate(database):
-        row = numbers[rolls * rank : rolls * rank + rolls]
-        shares = row[:_SHARES] + [0] * (_SHARES - rolls)
-        shares[-1] += sum(row[_SHARES:])
-        yield position, shares
+    for position, row in zip(database, share_rows(database._opened, MOST_ROLLS + 1)):
+        yield position, [*row[: _SHARES - 1], sum(row[_SHARES - 1 :])]
 
 
 def _rounded(numerators: Sequence[int], whole: int) -> List[int]:
-    """Numbers that add up to 65,535, each near to its share of that, whose mean is the nearest that
-    there can be.
-    """
+    """Numbers that sum to 65,535, near to their shares of that, with the nearest possible mean."""
     parts = [divmod(_WHOLE * numerator, whole) for numerator in numerators]
     shares = [part for part, _ in parts]
     # the largest rests are rounded up

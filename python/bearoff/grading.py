@@ -1,4 +1,4 @@
-"""What each bearoff play of a match has lost, beside the best play of its roll.
+"""Grading: what each bearoff play of a match lost compared with the best play of its roll.
 
     >>> graded = grade("match.mat", database)
     >>> float(graded.players[0].pips)
@@ -21,25 +21,25 @@ from .database import Database
 from .errors import NOT_LEGAL, OVER_BOUND, BadArgument, BadMatch, Refused
 from .exact import lowest_terms
 from .matches import Match, MatchPlay, read_match
-from .positions import Play, Position, shown
+from .moves import steps_of
+from .positions import Move, Play, Position, shown
 from .texts import MOST_MATCH, printable, short
 
 NOTE = (
-    "Losses are of one side's rolls and no equity: the other player, the cube and the score are"
-    " left aside, and in a decided game a loss may cost nothing."
+    "Losses are in rolls of one side, not in equity: the opponent, the cube and the score are left"
+    " out, and in a decided game a loss may cost nothing."
 )
-"""What a table and a JSON of graded plays say of their numbers."""
+"""The note that tables and JSON of graded plays carry."""
 
 
 _LOST = ("rolls lost", "pips lost")
 
 
 class GradedPlay(NamedTuple):
-    """A bearoff play of a match: the number of the game, of the move in it, and of the line in the
-    file; the player, 0 or 1, of the left or the right column; the position, the dice and the play
-    as the file has it; the position that it led to; what it lost, in rolls; the best play, which
-    is the recorded one; and how many positions the roll could lead to, of which 1 leaves no
-    choice.
+    """A bearoff play of a match: the numbers of the game, the move and the line in the file; the
+    player, 0 (left column) or 1 (right); the position, the dice and the moves as in `Play.text`;
+    the position after it; its loss in rolls; the best play, which is the recorded one; and the
+    number of positions that the roll could lead to, where 1 means no choice.
     """
 
     game: int
@@ -81,8 +81,9 @@ class GradedPlayer(NamedTuple):
 
 class Graded(NamedTuple):
     """A match whose bearoff plays were graded: its length in points, which is 0 for money games;
-    how many games it has; the pip bound of the database; both players; and the plays in their
-    order.
+    how many games it has; the pip bound of the database; both players; the plays in their order;
+    how many rolls the match has, and how many of them in a bearoff were not played; and the
+    numbers of the games whose end is not in the file.
     """
 
     length: int
@@ -90,6 +91,15 @@ class Graded(NamedTuple):
     bound: int
     players: Tuple[GradedPlayer, GradedPlayer]
     plays: Tuple[GradedPlay, ...]
+    rolls: int
+    unplayed: int
+    unfinished: Tuple[int, ...]
+
+    @property
+    def outside(self) -> int:
+        """How many rolls were left out as they are not of a bearoff."""
+        over_bound = sum(player.over_bound for player in self.players)
+        return self.rolls - len(self.plays) - over_bound - self.unplayed
 
     def table(self) -> str:
         """The plays and the players as two tables of text, and what the numbers are. Of a name the
@@ -106,7 +116,7 @@ class Graded(NamedTuple):
                     names[play.player],
                     str(play.position),
                     "{}{}".format(*play.dice),
-                    printable(play.text),
+                    play.text,
                     *_lost(play.loss, play.pips),
                     play.best.text if play.loss else "",
                 )
@@ -118,9 +128,16 @@ class Graded(NamedTuple):
             counts = (name, str(player.plays), str(player.choices), str(player.losing))
             totals.append((*counts, *_lost(player.loss, player.pips), str(player.over_bound)))
         right = {"game", "move", *totals[0][1:]}
-        bound = f"Of positions of at most {self.bound} pips."
-        lines = [*_lines(rows, right), "", *_lines(totals, right), "", bound, NOTE, ""]
-        return "\n".join(lines)
+        left_out = (
+            f"{len(self.plays)} of {self.rolls} rolls are graded. Left out: {self.outside} outside"
+            f" the bearoff, {sum(player.over_bound for player in self.players)} of more than"
+            f" {self.bound} pips, {self.unplayed} without a play."
+        )
+        notes = [left_out, NOTE]
+        if self.unfinished:
+            games = ", ".join(map(str, self.unfinished))
+            notes.insert(1, f"Unfinished in this file, and graded up to there: game {games}.")
+        return "\n".join([*_lines(rows, right), "", *_lines(totals, right), "", *notes, ""])
 
     def to_json(self) -> str:
         """The same as JSON: exact losses as texts like ``1/9``, and beside them floats."""
@@ -128,6 +145,10 @@ class Graded(NamedTuple):
             "match_length": self.length,
             "games": self.games,
             "bound": self.bound,
+            "rolls": self.rolls,
+            "outside_the_bearoff": self.outside,
+            "without_a_play": self.unplayed,
+            "unfinished_games": self.unfinished,
             "note": NOTE,
             "players": [
                 {
@@ -162,20 +183,23 @@ class Graded(NamedTuple):
 
 
 def grade(match: Union[str, "os.PathLike[str]", Match], database: Database) -> Graded:
-    """Grades each bearoff play of a match, which is the path of a `.mat` or `.sgf` file or what
-    `bearoff.matches.read_match` gave: each roll of a player whose checkers are all home and past
-    the other player's.
+    """Grades the bearoff plays of a match: the rolls of a player whose checkers are all home and
+    past the opponent's. `match` is the path of a `.mat` or `.sgf` file, or a result of
+    `bearoff.matches.read_match`.
 
-    Raises `BadMatch` where the file is no such match, a play isn't one of its roll, or none was
-    made; and OSError where it can't be read. Left out are a roll at which the game ended without a
-    play, and positions of more pips than the database has, which are counted.
+    Raises `BadMatch` if the file is not such a match, or a play is illegal or missing; and OSError
+    if it can't be read. Rolls at which the game ended without a play, and positions beyond the
+    database's bound, are counted and left out.
     """
     told = match if isinstance(match, Match) else read_match(_text_of(match))
     bound = database.bound
     plays: List[GradedPlay] = []
-    over_bound = [0, 0]
+    over_bound, unplayed = [0, 0], 0
     for place, turn in enumerate(told.plays):
-        if not turn.is_bearoff or (not turn.text and _ends(told, place)):
+        if not turn.is_bearoff:
+            continue
+        if not turn.text and _ends(told, place):
+            unplayed += 1
             continue
         try:
             plays.append(_graded(turn, database))
@@ -188,12 +212,23 @@ def grade(match: Union[str, "os.PathLike[str]", Match], database: Database) -> G
                 raise BadMatch("illegal", turn.line, what, turn.text) from None
             else:
                 raise
-    players = [_total(player, told, plays, over_bound[player]) for player in (0, 1)]
-    return Graded(told.length, told.games, bound, (players[0], players[1]), tuple(plays))
+    one, other = (_total(player, told, plays, over_bound[player]) for player in (0, 1))
+    return Graded(
+        told.length,
+        told.games,
+        bound,
+        (one, other),
+        tuple(plays),
+        len(told.plays),
+        unplayed,
+        told.unfinished,
+    )
 
 
 def _graded(turn: MatchPlay, database: Database) -> GradedPlay:
     position, dice, to = turn.position, turn.dice, turn.to
+    loss = database.loss(position, dice, to)
+    moves = (Move(source, target) for source, target, _ in steps_of(turn.text))
     return GradedPlay(
         turn.game,
         turn.move,
@@ -201,9 +236,9 @@ def _graded(turn: MatchPlay, database: Database) -> GradedPlay:
         turn.player,
         position,
         dice,
-        turn.text,
+        Play(tuple(moves), to).text,
         to,
-        database.loss(position, dice, to),
+        loss,
         database.play(position, dice),
         len(database.moves(position, dice)),
     )

@@ -79,17 +79,24 @@ class MatchPlay(NamedTuple):
 
 class Match(NamedTuple):
     """A match: its length in points, which is 0 for a session of money games; the names of the two
-    players, the one of the left column first; how many games it has; and its rolls in their order.
+    players, the one of the left column first; how many games it has; its rolls in their order; and
+    the numbers of the games whose end is not in the text.
     """
 
     length: int
     names: Tuple[str, str]
     games: int
     plays: Tuple[MatchPlay, ...]
+    unfinished: Tuple[int, ...]
 
 
-_LENGTH = re.compile(r" *([0-9]{1,5}) point match *", re.IGNORECASE)
-_VARIATION = re.compile(r'; *\[Variation "([^"]*)"\] *', re.IGNORECASE)
+# blanks of other kinds than those of ASCII, ends of lines of other systems, and the mark that begins
+# some files: each is a blank
+_BLANK = re.compile(
+    "[\v\f\r\x1c-\x1f\x85\xa0\u1680\u2000-\u200a\u2028\u2029\u202f\u205f\u3000\ufeff]"
+)
+_LENGTH = re.compile(r" *([0-9]{1,5}) point match *", re.IGNORECASE | re.ASCII)
+_VARIATION = re.compile(r'; *\[Variation "([^"]*)"\] *', re.IGNORECASE | re.ASCII)
 _GAME = re.compile(r" *Game ([0-9]{1,6}) *")
 _SCORE = re.compile(r" : [0-9]{1,6}(?= |$)")
 _NUMBERED = re.compile(r" *([0-9]{1,6})\)(.*)")
@@ -118,14 +125,15 @@ def read_match(text: str) -> Match:
         raise BadArgument(f"not the text of a match: {shown(text)}")
     if len(text) > MOST_MATCH:
         raise BadMatch("malformed", 1, f"a match has at most {MOST_MATCH} characters")
-    if text.lstrip("\ufeff \t\r\n").startswith("("):
+    text = _BLANK.sub(" ", text.replace("\r\n", "\n"))
+    if text.lstrip().startswith("("):
         return _SgfReader().whole(text)
     reader = _Reader()
-    lines = text.lstrip("\ufeff").split("\n", MOST_PARTS)
+    lines = text.split("\n", MOST_PARTS)
     if len(lines) > MOST_PARTS:
         raise BadMatch("malformed", MOST_PARTS + 1, f"a match has at most {MOST_PARTS} lines")
     for number, line in enumerate(lines, 1):
-        reader.read(number, line.rstrip("\r"))
+        reader.read(number, line)
     return reader.end()
 
 
@@ -139,6 +147,7 @@ class _Reader:
         self.names: Optional[Tuple[str, str]] = None
         self.games = 0
         self.plays: List[MatchPlay] = []
+        self.unfinished: List[int] = []
         # the checkers of both players in the game that is being read, where its players were named
         self.boards: Optional[List[List[int]]] = None
         self.is_named = True
@@ -185,9 +194,15 @@ class _Reader:
             self.refuse("malformed", "the players of the game before aren't named")
         if game != self.games + 1:
             self.refuse("malformed", f"it should be game {self.games + 1}")
+        self.leave()
         self.games = game
         self.boards, self.is_named, self.is_over = None, False, False
         self.move, self.last = 0, None
+
+    def leave(self) -> None:
+        """Notes the game that was read, where neither its end is told nor a player is off."""
+        if not self.is_over and all(map(any, self.boards or ())):
+            self.unfinished.append(self.games)
 
     def name(self) -> None:
         # what stands before each score, and behind the last one
@@ -332,7 +347,9 @@ class _Reader:
         self.text = ""
         if self.length is None or self.names is None or not self.is_named:
             self.refuse("malformed", "the file ends before a game has begun")
-        return Match(self.length, self.names, self.games, tuple(self.plays))
+        self.leave()
+        unfinished = tuple(self.unfinished)
+        return Match(self.length, self.names, self.games, tuple(self.plays), unfinished)
 
 
 _BLANKS = re.compile(r"\s*")
@@ -354,7 +371,7 @@ class _SgfReader(_Reader):
 
     def whole(self, text: str) -> Match:
         """Reads all of the text."""
-        place, depth, parts = len(text) - len(text.lstrip("\ufeff")), 0, 0
+        place, depth, parts = 0, 0, 0
         values: List[slice] = []
         end = len(text.rstrip())
         self.number = 1
@@ -405,6 +422,8 @@ class _SgfReader(_Reader):
 
     def property(self, name: str, values: List[str]) -> None:
         """Takes one property with its values."""
+        if name == "RE":
+            self.is_over = True
         if name in _SGF_SET_UP:
             self.refuse("malformed", "a position is set up in the middle of a game")
         if name in ("GM", "MI", "PW", "PB", "RU"):

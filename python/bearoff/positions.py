@@ -11,7 +11,6 @@ from operator import index
 from reprlib import Repr
 from typing import (
     Any,
-    Iterator,
     Literal,
     NamedTuple,
     Optional,
@@ -23,7 +22,7 @@ from typing import (
 )
 
 from .errors import BadArgument
-from .exact import Fraction, lowest_terms
+from .exact import Fraction
 from .moves import NoMoves, is_play, steps_of
 from .texts import MOST_TEXT, printable, short
 
@@ -33,7 +32,7 @@ _TEXT = re.compile(",".join([_COUNT] * 6))
 _ROLL = re.compile(f"{_BLANKS}([0-9]){_BLANKS}[-,]?{_BLANKS}([0-9]){_BLANKS}")
 # what a message says is wanted
 _A_POSITION = "a position, which is six counts as in 0,0,0,0,0,1"
-_A_ROLL = "a roll of two dice, as in 21 or 2-1"
+_A_ROLL = 'a roll of two dice, as in 21 or "2-1"'
 
 
 class Position(NamedTuple):
@@ -50,8 +49,8 @@ class Position(NamedTuple):
 
     @classmethod
     def parse(cls, text: str) -> Position:
-        """The position of a text of six counts with commas between them, and blanks where they are
-        wanted; there are no signs and no leading zeros. Raises `BadArgument` for any other text.
+        """Reads six counts separated by commas, with optional blanks, without signs or leading
+        zeros. Raises `BadArgument` for any other text.
         """
         counts = _match(_TEXT, text) if isinstance(text, str) else None
         if not counts:
@@ -73,51 +72,39 @@ class Position(NamedTuple):
 
 
 class Move(NamedTuple):
-    """One checker's move: from a point, 1 to 6, to a lower one, or to 0 where it is borne off."""
+    """One checker's move, from point 1 to 6 to a lower one; 0 means borne off."""
 
     source: int
     target: int
 
 
 class Rounded(Fraction):
-    """A number of pips: a `fractions.Fraction`, and so compared and computed with, hashed and
-    written as one. What is computed with it is a plain fraction. Unpacked it is `exact` and
-    `thousandths`.
+    """A number of pips: a `fractions.Fraction` that also has `thousandths`. Arithmetic with it
+    gives plain fractions.
     """
 
     __slots__ = ()
 
     @property
-    def exact(self) -> fractions.Fraction:
-        """The same number as a plain fraction."""
-        return lowest_terms(self.numerator, self.denominator)
-
-    @property
     def thousandths(self) -> int:
-        """The number in thousandths, rounded to the nearest and a half up."""
+        """The number in thousandths, rounded half up."""
         return (2000 * self.numerator + self.denominator) // (2 * self.denominator)
-
-    def __iter__(self) -> Iterator[Any]:
-        return iter((self.exact, self.thousandths))
 
 
 class EffectivePips(Rounded):
-    """An effective pip count, in pips: 49/6 for each roll of the mean (the GNU Backgammon
-    manual)."""
+    """An effective pip count in pips: 49/6 per roll of the mean (GNU Backgammon manual)."""
 
     __slots__ = ()
 
 
 class Wastage(Rounded):
-    """An effective pip count less the pip count, in pips. None of the home board is below 0."""
+    """An effective pip count minus the pip count, in pips. It is never negative."""
 
     __slots__ = ()
 
 
-class Standing(NamedTuple):
-    """What a position stands at: its pip count, 0 to 90, its checkers, 0 to 15, and how many of 15
-    are borne off.
-    """
+class PositionInfo(NamedTuple):
+    """The pip count of a position, 0 to 90, its checkers, 0 to 15, and those of 15 borne off."""
 
     pips: int
     checkers: int
@@ -125,21 +112,19 @@ class Standing(NamedTuple):
 
 
 class Play(NamedTuple):
-    """A play: its moves in the order in which they are made, and the position that it leads to."""
+    """A play: its moves in order, and the position after it."""
 
     moves: Tuple[Move, ...]
     to: Position
 
     @property
     def text(self) -> str:
-        """The moves as a player writes them: ``4/2 2/1``, and ``6/off`` where a checker is borne
-        off.
-        """
+        """The moves in usual notation, such as ``4/2 2/1`` and ``6/off``."""
         return " ".join(f"{source}/{target or 'off'}" for source, target in self.moves)
 
 
 class Choice(NamedTuple):
-    """A position that a roll can lead to, and what it costs in rolls beside the best one."""
+    """A position that a roll can lead to, and its loss in rolls compared with the best one."""
 
     to: Position
     loss: fractions.Fraction
@@ -261,7 +246,7 @@ def sides_of(
         mine = read(mine)
     if not isinstance(mine, Race) or mine.theirs is None:
         raise BadArgument(
-            f"the position of the other player isn't told, by a second one or an XGID: {shown(mine)}"
+            f"the opponent's position is missing, as a second one or in an XGID: {shown(mine)}"
         )
     return mine.mine, mine.theirs
 

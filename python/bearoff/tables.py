@@ -12,17 +12,19 @@ import io
 import json
 import os
 import sqlite3
-import tempfile
-from contextlib import closing
+from contextlib import closing, suppress
 from typing import Any, Callable, Dict, Iterator, Tuple, Union
 
-from ._writing import write_whole
+from ._writing import place_of, write_whole
 from .database import Database
 from .errors import BadArgument
 from .exact import over_whole, wide_numbers
 from .positions import shown
 
 __all__ = ["COLUMNS", "export"]
+
+_PATIENCE = 5
+_Rows = Iterator[Tuple[Any, ...]]
 
 COLUMNS = {
     "rank": "INTEGER PRIMARY KEY",
@@ -38,72 +40,79 @@ COLUMNS = {
 
 
 def export(database: Database, path: Union[str, "os.PathLike[str]"]) -> None:
-    """Writes the table of all positions into a file, whose kind is the ending of its name: `.csv`,
-    `.json`, or `.sqlite` or `.sqlite3`, where the table is called `positions`. What stood there
-    before is replaced once the new file is whole, and keeps its owner and permissions.
+    """Writes the table of all positions to a file whose name ends in `.csv`, `.json`, `.sqlite` or
+    `.sqlite3`.
 
-    Raises `BadArgument` where the name has another ending, or a database of bearoff stands there;
-    and OSError where the file can't be written, or another program has not finished its changes
-    of an SQLite file, which stand beside it.
+    A CSV or JSON file is replaced once the new one is complete, and keeps its permissions. In an
+    SQLite file one transaction replaces the table `positions`; other tables
+    stay, and an error leaves the file as it was.
+
+    Raises `BadArgument` if the name has another ending, or the file is a bearoff database; and
+    OSError if the file can't be written, is not an SQLite file although its name says so, or is
+    in use by another program for more than five seconds.
     """
     try:
         name = os.fspath(path)
-        made = _KINDS[os.path.splitext(name)[1].lower()]
+        write = _KINDS[os.path.splitext(name)[1].lower()]
     except (TypeError, KeyError):
         what = "the name of the file ends in none of " + ", ".join(_KINDS)
         raise BadArgument(f"{what}: {shown(path)}") from None
-    apart = ("-journal", "-wal") if made is _as_sqlite else ()
-    write_whole(name, made(_rows(database)), apart)
+    write(name, _rows(database))
 
 
-def _rows(database: Database) -> Iterator[Tuple[Any, ...]]:
-    table = database.means()
-    words = table.shape[1]  # type: ignore[index]
-    flat, whole = table.cast("B").cast("Q"), database.whole
-    exact = wide_numbers(*(flat[word::words].tolist() for word in range(words)))
-    floats = [
-        of(floats=True).tolist() for of in (database.means, database.epcs, database.wastages)
-    ]
+def _rows(database: Database) -> _Rows:
+    exact, whole = wide_numbers(database.means(words=True)), database.denominator
+    floats = [of().tolist() for of in (database.means, database.epcs, database.wastages)]
     for rank, (position, mean, numbers) in enumerate(zip(database, exact, zip(*floats))):
         sums = position.pips, position.checkers
         yield (rank, *position, *sums, *numbers, str(over_whole(mean, whole)))
 
 
-def _as_csv(rows: Iterator[Tuple[Any, ...]]) -> bytes:
+def _to_csv(name: str, rows: _Rows) -> None:
     text = io.StringIO(newline="")
     table = csv.writer(text, lineterminator="\n")
     table.writerow(COLUMNS)
     table.writerows(rows)
-    return text.getvalue().encode("ascii")
+    write_whole(name, text.getvalue().encode("ascii"))
 
 
-def _as_json(rows: Iterator[Tuple[Any, ...]]) -> bytes:
+def _to_json(name: str, rows: _Rows) -> None:
     lines = ",\n".join(json.dumps(dict(zip(COLUMNS, row))) for row in rows)
-    return f"[\n{lines}\n]\n".encode("ascii")
+    write_whole(name, f"[\n{lines}\n]\n".encode("ascii"))
 
 
-def _as_sqlite(rows: Iterator[Tuple[Any, ...]]) -> bytes:
-    columns = ", ".join(f"{name} {kind}" for name, kind in COLUMNS.items())
-    places = ", ".join("?" * len(COLUMNS))
-    with tempfile.TemporaryDirectory(prefix="bearoff-") as folder:
-        path = os.path.join(folder, "table")
-        try:
-            with closing(sqlite3.connect(path)) as file, file:
-                # it is read once and thrown away
-                file.execute("PRAGMA synchronous = OFF")
-                file.execute("PRAGMA journal_mode = OFF")
-                file.execute(f"CREATE TABLE positions ({columns})")
-                file.executemany(f"INSERT INTO positions VALUES ({places})", rows)
-                file.execute("CREATE INDEX positions_by_pips ON positions (pips)")
-        except sqlite3.Error as error:
-            raise OSError(f"{path}: {error}") from error
-        with open(path, "rb") as made:
-            return made.read()
+def _to_sqlite(name: str, rows: _Rows) -> None:
+    columns = ", ".join(f"{column} {kind}" for column, kind in COLUMNS.items())
+    values = ", ".join("?" * len(COLUMNS))
+    place, is_new = place_of(name)
+    try:
+        with closing(
+            sqlite3.connect(place, timeout=_PATIENCE, isolation_level=None)
+        ) as file, file:
+            file.execute("BEGIN IMMEDIATE")
+            file.execute("DROP TABLE IF EXISTS positions")
+            file.execute(f"CREATE TABLE positions ({columns})")
+            file.executemany(f"INSERT INTO positions VALUES ({values})", rows)
+            file.execute("CREATE INDEX positions_by_pips ON positions (pips)")
+    except BaseException as error:
+        if is_new:
+            with suppress(OSError):
+                if os.stat(place).st_size == 0:
+                    os.remove(place)
+        if isinstance(error, sqlite3.Error):
+            hint = _HINTS.get(str(error), "")
+            raise OSError(f"{error}{hint}: {shown(name)}") from error
+        raise
 
 
-_KINDS: Dict[str, Callable[[Iterator[Tuple[Any, ...]]], bytes]] = {
-    ".csv": _as_csv,
-    ".json": _as_json,
-    ".sqlite": _as_sqlite,
-    ".sqlite3": _as_sqlite,
+_HINTS = {
+    "database is locked": "; close the program that uses it, or try again",
+    "unable to open database file": "; its folder may be missing, or not yours to write in",
+    "file is not a database": "; remove it, or choose another name",
+}
+_KINDS: Dict[str, Callable[[str, _Rows], None]] = {
+    ".csv": _to_csv,
+    ".json": _to_json,
+    ".sqlite": _to_sqlite,
+    ".sqlite3": _to_sqlite,
 }

@@ -24,6 +24,8 @@ FOLDER = Path(os.environ["BEAROFF_DATABASES"])
 ROOT = Path(__file__).parents[2]
 ROLLS = [(high, low) for high in range(1, 7) for low in range(1, high + 1)]
 FILES = {8: "eight", 44: "race.db", 58: "large.db"}
+# of a table of all positions each is compared, or one of so many
+STEP = int(os.environ.get("BEAROFF_STEP", "1"))
 
 
 class Compared(unittest.TestCase):
@@ -59,14 +61,22 @@ def positions(bound: int) -> List[Counts]:
             for rest in lists(point + 1, checkers - count, pips - point * count):
                 yield (count, *rest)
 
-    def pips_first(counts: Counts) -> Tuple[int, Counts]:
-        return sum(point * count for point, count in enumerate(counts, 1)), counts
+    return sorted(lists(1, 15, bound), key=lambda counts: (pips(counts), counts))
 
-    return sorted(lists(1, 15, bound), key=pips_first)
+
+def pips(counts: Sequence[int]) -> int:
+    return sum(point * count for point, count in enumerate(counts, 1))
 
 
 def text(position: Sequence[int]) -> str:
     return ",".join(map(str, position))
+
+
+def numbers(table: memoryview, row: int = 3, place: int = 0) -> List[int]:
+    """The numbers at a place of the rows of a table, which have so many words each."""
+    flat = table.cast("B").cast("Q").tolist()
+    words = zip(*(flat[place + word :: row] for word in range(3)))
+    return [(first << 128) + (middle << 64) + last for first, middle, last in words]
 
 
 def replies(bound: int, lines: Sequence[str]) -> List[str]:
@@ -86,6 +96,21 @@ def replies(bound: int, lines: Sequence[str]) -> List[str]:
             check=True,
         )
     return run.stdout.splitlines()
+
+
+def run_command(
+    *words: str, stdout: Any = subprocess.PIPE, given: str = "", **environment: str
+) -> "subprocess.CompletedProcess[str]":
+    """Runs a command of the package."""
+    return subprocess.run(
+        [sys.executable, "-m", "bearoff", *words],
+        cwd=ROOT / "python",
+        env={**os.environ, **environment},
+        input=given,
+        stdout=stdout,
+        stderr=subprocess.PIPE,
+        encoding="utf-8",
+    )
 
 
 def run_alone(script: str, *words: str) -> "subprocess.CompletedProcess[str]":

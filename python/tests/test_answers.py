@@ -3,12 +3,24 @@
 import random
 import unittest
 from fractions import Fraction
+from operator import mul
 from typing import Any, Callable, Iterable, List, Sequence, Tuple
 from unittest import mock
 
-from bearoff import WEIGHTS, WHOLE, Database, Move, Position, Refused, _library
+from bearoff import Database, Move, Position, Refused, _library
 
-from .given import FOLDER, ROLLS, ROOT, Compared, Counts, database, positions, replies, text
+from .given import (
+    FOLDER,
+    ROLLS,
+    ROOT,
+    Compared,
+    Counts,
+    database,
+    numbers,
+    positions,
+    replies,
+    text,
+)
 
 Roll = Tuple[int, int]
 
@@ -27,7 +39,8 @@ class Answers(Compared):
         if name == "mean":
             self.assertEqual(here.mean(at), Fraction(told[0]), line)
             thousandths = int(told[3].replace(".", ""))
-            self.assertEqual([*here.epc(at)], [Fraction(told[2]), thousandths], line)
+            epc = here.epc(at)
+            self.assertEqual((epc, epc.thousandths), (Fraction(told[2]), thousandths), line)
         elif name == "rank":
             self.assertEqual(here.rank(at), int(told[0]), line)
             self.assertEqual(here.position(int(told[0])), Position.parse(at), line)
@@ -37,6 +50,11 @@ class Answers(Compared):
                 count, share = part.split(":")
                 shares[int(count)] = Fraction(share)
             self.assertEqual(list(here.distribution(at)), shares, line)
+            mean = sum(map(mul, range(34), shares))
+            variance = sum((rolls - mean) ** 2 * share for rolls, share in enumerate(shares))
+            self.assertEqual(here.variance(at), variance, line)
+            deviation = float(variance) ** 0.5
+            self.assertAlmostEqual(here.standard_deviation(at), deviation, 14, line)
             for rolls in (0, 5, 6, 22, 32, 33, 34, 10**30):
                 wanted = sum(shares[: rolls + 1], Fraction(0))
                 self.assertEqual(here.within(at, rolls), wanted, line)
@@ -85,7 +103,7 @@ class Answers(Compared):
         self.assertEqual((eight.version, eight.bound, len(eight)), (1, 8, 64))
         self.assertEqual(eight.mean((0, 0, 0, 0, 0, 1)), Fraction(5, 4))
         self.assertEqual(eight.mean([0] * 6), 0)
-        self.assertEqual([*eight.epc("0,0,0,0,0,1")], [Fraction(245, 24), 10208])
+        self.assertEqual(eight.epc("0,0,0,0,0,1"), Fraction(245, 24))
         self.assertEqual(sum(eight.distribution((5, 0, 0, 0, 0, 0))), 1)
         self.assertEqual(eight.distribution((5, 0, 0, 0, 0, 0))[2], Fraction(11, 36))
         play = eight.play((0, 0, 0, 2, 0, 0), (2, 1))
@@ -93,9 +111,8 @@ class Answers(Compared):
         self.assertEqual(eight.loss("0,0,0,2,0,0", [1, 2], "0,1,1,0,0,0"), Fraction(1, 9))
         self.assertEqual(Position.parse("0,0,0,2,0,1"), (0, 0, 0, 2, 0, 1))
         self.assertEqual(str(Position(0, 0, 0, 2, 0, 1)), "0,0,0,2,0,1")
-        self.assertEqual(
-            (Position(1, 0, 0, 2, 0, 1).pips, Position(1, 0, 0, 2, 0, 1).checkers), (15, 4)
-        )
+        position = Position(1, 0, 0, 2, 0, 1)
+        self.assertEqual((position.pips, position.checkers), (15, 4))
 
     def test_fractions_are_like_others(self) -> None:
         """They are in lowest terms, though no common divisor was looked for."""
@@ -110,11 +127,10 @@ class Answers(Compared):
         for share in (
             told,
             *database(44).distribution("1,2,3,0,2,1"),
-            database(44).epc("1,2,3,0,2,1").exact,
+            database(44).epc("1,2,3,0,2,1"),
         ):
-            self.assertEqual(
-                share.denominator, Fraction(share.numerator, share.denominator).denominator
-            )
+            lowest = Fraction(share.numerator, share.denominator)
+            self.assertEqual(share.denominator, lowest.denominator)
 
     def test_lines(self) -> None:
         lines = ["rank 0,0,0,0,0,1", "loss 0,0,0,2,0,0 21 0,1,1,0,0,0", "mean 0,0,0,0,0,16"]
@@ -188,38 +204,19 @@ class Answers(Compared):
 
 
 class WholeTables(Compared):
-    def test_shapes(self) -> None:
-        for bound in (8, 58):
-            here = database(bound)
-            count = len(positions(bound))
-            for table, format, shape in (
-                (here.positions(), "B", (count, 6)),
-                (here.means(), "Q", (count, 2)),
-                (here.epcs(), "Q", (count, 5)),
-                (here.distributions(), "Q", (count, 23, 2)),
-            ):
-                self.assertEqual(
-                    (table.format, table.shape, table.c_contiguous), (format, shape, True)
-                )
-
     def test_weights(self) -> None:
-        """Floats by the weights are as near to the exact numbers as the page says, also where one
-        half is nothing."""
-        here = database(58)
-        flat = [*here.means().cast("B").cast("Q"), *here.distributions().cast("B").cast("Q")]
-        halves = [*zip(flat[::2], flat[1::2])][::7]
-        for high, low in halves:
-            about, exact = high * WEIGHTS[0] + low * WEIGHTS[1], (high << 64) + low
-            self.assertLessEqual(abs(about - exact / WHOLE), 1e-15 * exact / WHOLE)
-        self.assertTrue(any(high == 0 < low for high, low in halves))
-
-    def test_a_table_belongs_to_the_caller(self) -> None:
-        table: Any = database(8).means()
-        table[1, 0] = 0
-        other: Any = database(8).means()
-        self.assertEqual(table[1, 0], 0)
-        self.assertEqual(database(8).mean((1, 0, 0, 0, 0, 0)), 1)
-        self.assertEqual(other[1, 0], WHOLE >> 64)
+        """Floats by the weights are as near to the exact numbers as the page says, also where some
+        words are nothing."""
+        for bound in (58, 90):
+            here = database(bound)
+            whole = here.denominator
+            for table in (here.means(words=True), here.distributions(words=True)):
+                flat = table.cast("B").cast("Q").tolist()
+                rows = [*zip(flat[::3], flat[1::3], flat[2::3])][::7]
+                for row, exact in zip(rows, numbers(table)[::7]):
+                    about = sum(map(mul, row, here.weights))
+                    self.assertLessEqual(abs(about - exact / whole), 1e-15 * exact / whole)
+            self.assertTrue(any(row[:2] == (0, 0) and row[2] for row in rows))
 
 
 if __name__ == "__main__":

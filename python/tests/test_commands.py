@@ -4,6 +4,7 @@ import contextlib
 import io
 import os
 import re
+import signal
 import subprocess
 import sys
 import tempfile
@@ -12,9 +13,9 @@ from pathlib import Path
 from typing import List, Tuple
 from unittest import mock
 
-from bearoff import __main__
+from bearoff import Database, __main__
 
-from .given import FILES, FOLDER, PROGRAM, ROOT, database
+from .given import FILES, FOLDER, PROGRAM, ROOT, database, run_command
 
 XGID = "XGID=-ABC--D------------a-b--c-:0:0:1:21:0:0:0:0:10"
 MINE, THEIRS = "1,2,3,0,0,4", "3,0,0,2,0,1"
@@ -22,15 +23,7 @@ RACE = str(FOLDER / FILES[44])
 
 
 def run(*words: str, given: str = "", path: str = "") -> Tuple[int, str, str]:
-    told = subprocess.run(
-        [sys.executable, "-m", "bearoff", *words],
-        cwd=ROOT / "python",
-        env={**os.environ, "PATH": path} if path else None,
-        input=given,
-        stdout=subprocess.PIPE,
-        stderr=subprocess.PIPE,
-        encoding="utf-8",
-    )
+    told = run_command(*words, given=given, PATH=path or os.environ["PATH"])
     return told.returncode, told.stdout, told.stderr
 
 
@@ -48,10 +41,41 @@ class Commands(unittest.TestCase):
         six = "0,0,0,0,0,1: 10.208 pips, 245/24; wastage 4.208\n"
         self.right(six, "epc", "0,0,0,0,0,1")
         wastage = here.wastage(MINE)
-        told = f"{epc.thousandths / 1000:.3f} pips, {epc.exact}"
+        told = f"{epc.thousandths / 1000:.3f} pips, {epc}"
         told += f"; wastage {wastage.thousandths / 1000:.3f}"
         self.right(f"{MINE}: {told}\n", "epc", XGID)
         self.right("0,0,0,0,0,0: 0.000 pips, 0; wastage 0.000\n", "epc", "0,0,0,0,0,0")
+
+    def test_each_position_by_itself(self) -> None:
+        """Its error stands in its place, and they share one database."""
+        eight = str(FOLDER / FILES[8])
+        six, over = "0,0,0,0,0,1: 1.250000 rolls, 5/4\n", f"more pips than the bound: {MINE}\n"
+        two = "error: a position is six counts, and these are 2: 1,2\n"
+        many = "error: more than 15 checkers: 0,0,0,0,0,16\n"
+        none = "error: neither an XGID, an ID of GNU Backgammon nor six counts: ?[2J x\n"
+        for words, given, status, want in (
+            (("0 0 0 0 0 1", "1,2", "0,0,0,0,0,1"), "", 2, six + two + six),
+            (("0,0,0,0,0,16", "1,2"), "", 3, many + two),
+            ((MINE, "0,0,0,0,0,1", "--database", eight), "", 3, f"error: {over}{six}"),
+            (("0,0,0,0,0,1", "-"), "1,2\r\n0,0,0,0,0,16\n0 0 0 0 0 1", 2, six + two + many + six),
+            (("-",), "\x1b[2J\tx\n", 2, none),
+            (("-",), "", 0, ""),
+        ):
+            self.assertEqual(run("mean", *words, given=given), (status, want, ""), words)
+        asked = ["epc", "0,0,0,0,0,1", "1,2", MINE, MINE]
+        with mock.patch.object(Database, "build", side_effect=Database.build) as build:
+            with contextlib.redirect_stdout(io.StringIO()):
+                self.assertEqual(__main__.main(asked), 2)
+        build.assert_called_once_with(38)
+
+    def test_a_closed_pipe(self) -> None:
+        """It ends as by SIGPIPE, and says nothing."""
+        for words in (["epc", XGID], ["moves", XGID], ["--help"]):
+            ends, there = os.pipe()
+            os.close(ends)
+            told = run_command(*words, stdout=there)
+            os.close(there)
+            self.assertEqual((told.returncode, told.stderr), (-signal.SIGPIPE, ""), words)
 
     def test_play_and_moves(self) -> None:
         here = database(44)
@@ -74,7 +98,7 @@ class Commands(unittest.TestCase):
             status, told, errors = run("wins", *words)
             self.assertEqual((status, errors), (0, ""))
             self.assertEqual(told.split("\n")[0], f"{float(chance):.6f}, {chance}")
-            self.assertIn("In most races others win more often", told)
+            self.assertIn("usually wins slightly more often", told)
 
     def test_the_lines_of_the_page(self) -> None:
         page = (ROOT / "docs/embedding.md").read_text("utf-8")
@@ -87,22 +111,26 @@ class Commands(unittest.TestCase):
     def test_what_goes_wrong(self) -> None:
         eight = str(FOLDER / FILES[8])
         for words, status, line in (
-            (("mean", "1,2"), 2, "bearoff: a position is six counts, and these are 2: 1,2\n"),
+            (
+                ("play", "1,2", "21"),
+                2,
+                "bearoff: a position is six counts, and these are 2: 1,2\n",
+            ),
             (
                 ("play", "0,0,0,0,0,1"),
                 2,
-                "bearoff: a roll is wanted behind the position, as in 21\n",
+                "bearoff: missing roll after the position, for example 21\n",
             ),
             (
                 ("play", "0,0,0,0,0,1", "7"),
                 2,
-                "bearoff: not a roll of two dice, as in 21 or 2-1: '7'\n",
+                "bearoff: not a roll of two dice, as in 21 or \"2-1\": '7'\n",
             ),
-            (("wins", MINE), 2, "bearoff: the position of the other player isn't told"),
+            (("wins", MINE), 2, "bearoff: the opponent's position is missing"),
             (("play", "0,0,0,0,0,1", "77"), 3, "bearoff: a die is not 1 to 6"),
             (("play", "0,0,0,0,0,0", "21"), 3, "bearoff: no checker is left"),
-            (("mean", "0,0,0,0,0,16"), 3, "bearoff: more than 15 checkers"),
-            (("mean", MINE, "--database", eight), 3, "bearoff: more pips than the bound"),
+            (("wins", "0,0,0,0,0,16", MINE), 3, "bearoff: more than 15 checkers"),
+            (("play", XGID, "--database", eight), 3, "bearoff: more pips than the bound"),
             (("epc", MINE, "--database", f"{eight}.none"), 1, "bearoff: [Errno 2]"),
             (("export", "table.txt"), 2, "bearoff: the name of the file ends in none of .csv"),
             (("export", "no/folder/table.csv"), 1, "bearoff: [Errno 2]"),
@@ -120,10 +148,10 @@ class Commands(unittest.TestCase):
     def test_words_that_a_terminal_would_obey(self) -> None:
         for words in (
             ("\x1b[2J",),
-            ("mean", "\x1b[2J"),
+            ("play", "\x1b[2J"),
             # with a blank it would be taken as a position
             ("mean", "1", "--\x1b[2J\nbearoff:right"),
-            ("mean", "1", "-\x1b[2J\nbearoff: right"),
+            ("play", "0,0,0,0,0,1", "-\x1b[2J\nbearoff: right"),
             ("mean", "0,0,0,0,0,1", "--database", "no\x1b[2J\nfile\u202e"),
             ("export", "\x1b]0;\x07.csv\n"),
             ("export", "no/\x1b]0;\x07\n.csv"),
@@ -214,7 +242,7 @@ class Program(unittest.TestCase):
 
     def test_there_is_none(self) -> None:
         status, told, errors = run("check", "race.db", path=self.path)
-        line = "bearoff: check is a command of the program bearoff, which isn't found here\n"
+        line = "bearoff: check is a command of the program bearoff, which was not found\n"
         self.assertEqual((status, told, errors), (1, "", line))
         self.program.write_bytes(b"no program")
         self.program.chmod(0o755)

@@ -9,6 +9,7 @@ import random
 import unittest
 from copy import copy, deepcopy
 from fractions import Fraction
+from operator import add, mod, mul, sub, truediv
 from typing import Any, Callable, List
 
 from bearoff import WHOLE
@@ -92,9 +93,8 @@ class Written(unittest.TestCase):
         self.assertEqual(f"{here.within('5,0,0,0,0,0', 2):.1%}", "30.6%")
         self.assertEqual(f"{here.distribution('5,0,0,0,0,0')[3]:.4f}", "0.6944")
         self.assertEqual(f"{here.loss('0,0,0,2,0,0', '21', '0,1,1,0,0,0'):.2f}", "0.11")
-        self.assertEqual(
-            [f"{choice.loss:.2f}" for choice in here.moves("0,0,0,2,0,0", "21")], ["0.00", "0.11"]
-        )
+        choices = here.moves("0,0,0,2,0,0", "21")
+        self.assertEqual([f"{choice.loss:.2f}" for choice in choices], ["0.00", "0.11"])
         self.assertEqual(f"{here.epc(six)}", str(here.epc(six)))
         self.assertEqual(f"{here.epc(six):.30f}", "10.208" + "3" * 27)
         self.assertEqual(f"{over_whole(0):.1f}", "0.0")
@@ -105,14 +105,7 @@ class Computed(unittest.TestCase):
         """What is computed is what fractions of Python give, and can be written too."""
         one, other = made(5, 4), made(-2, 3)
         plain, second = Fraction(5, 4), Fraction(-2, 3)
-        binary: List[Callable[[Any, Any], Any]] = [
-            lambda left, right: left + right,
-            lambda left, right: left - right,
-            lambda left, right: left * right,
-            lambda left, right: left / right,
-            lambda left, right: left % right,
-        ]
-        for operator in binary:
+        for operator in (add, sub, mul, truediv, mod):
             for left, right, wanted in (
                 (one, other, operator(plain, second)),
                 (one, second, operator(plain, second)),
@@ -121,15 +114,12 @@ class Computed(unittest.TestCase):
                 (7, one, operator(7, plain)),
             ):
                 told = operator(left, right)
-                self.assertEqual(
-                    (told, hash(told), repr(told)), (wanted, hash(wanted), repr(wanted))
-                )
-                self.assertEqual(
-                    format(told, ".1f"), format(made(told.numerator, told.denominator), ".1f")
-                )
-            self.assertEqual(
-                (type(operator(one, 0.5)), operator(one, 0.5)), (float, operator(plain, 0.5))
-            )
+                self.assertEqual((told, repr(told)), (wanted, repr(wanted)))
+                self.assertEqual(hash(told), hash(wanted))
+                again = made(told.numerator, told.denominator)
+                self.assertEqual(format(told, ".1f"), format(again, ".1f"))
+            with_float = operator(one, 0.5)
+            self.assertEqual((type(with_float), with_float), (float, operator(plain, 0.5)))
         unary: List[Callable[[Any], Any]] = [lambda it: -it, lambda it: +it, abs]
         unary += [lambda it: it**3, lambda it: round(it, 1)]
         for call in unary:
@@ -137,9 +127,8 @@ class Computed(unittest.TestCase):
                 told = call(number)
                 self.assertEqual((told, repr(told)), (call(same), repr(call(same))))
                 self.assertRegex(f"{told:.3f}", r"^-?[0-9]+\.[0-9]{3}$")
-        self.assertEqual(
-            (round(one), int(one), float(one), one // 1, one == plain), (1, 1, 1.25, 1, True)
-        )
+        numbers = (round(one), int(one), float(one), one // 1, one == plain)
+        self.assertEqual(numbers, (1, 1, 1.25, 1, True))
         shares = database(44).distribution("1,2,3,0,2,1")
         self.assertEqual(
             f"{sum(shares):.2f} {sum(shares[:3]):.2f} {max(shares):.2f}".split()[0], "1.00"

@@ -6,6 +6,7 @@ BEAROFF_MATCHES names a folder that tests/callers/play_gnubg.py has filled; with
 lets GNU Backgammon play, and leaves these matches out where there is none.
 """
 
+import base64
 import json
 import os
 import pickle
@@ -18,12 +19,13 @@ import unittest
 from fractions import Fraction
 from functools import lru_cache
 from pathlib import Path
-from typing import Any, Callable, Dict, List, Optional, Tuple
+from typing import Any, Callable, Dict, Iterator, List, Tuple
+from urllib.parse import unquote
 
-from bearoff import BadArgument, BadMatch, Database, Graded, Refused, grade, grading, notation
+from bearoff import BadArgument, BadMatch, Database, Graded, Refused, grade, grading
 from bearoff.matches import Match, MatchPlay, read_match
 
-from .given import FILES, FOLDER, ROOT, database, replies, run_alone, text
+from .given import FILES, FOLDER, ROOT, database, replies, run_alone, run_command, text
 
 STORED = ROOT / "python/tests/matches/short.mat"
 SHORT = STORED.read_text("ascii")
@@ -89,9 +91,19 @@ def changed(line: int, old: str, new: str) -> str:
     return "\n".join(lines)
 
 
-def at(line: int, old: str, new: str, what: str) -> Tuple[str, int, str]:
-    """A change in one line, that line, and what is said of it."""
-    return changed(line, old, new), line, what
+def rows_of_matches() -> Iterator[Tuple[str, str, str, str]]:
+    """The rows of tests/matches.txt: of each the row, its text, its verdict and its words."""
+    given = {"mat": SHORT, "sgf": SAVED, "head": SAVED.split("\n")[0], "text": ""}
+    for row in (ROOT / "tests/matches.txt").read_text("ascii").splitlines():
+        if row.startswith("#"):
+            continue
+        verdict, of, old, new, words = map(unquote, re.split(r" \| ?", row))
+        name, _, number = of.partition(" ")
+        lines, at = given[name].split("\n") if number else [given[name]], int(number or 1) - 1
+        if old and lines[at].count(old) != 1:
+            raise AssertionError(row)
+        lines[at] = lines[at].replace(old, new) if old else lines[at] + new
+        yield row, "\n".join(lines), verdict, words
 
 
 def as_xg(match: str) -> str:
@@ -156,7 +168,7 @@ class Stored(unittest.TestCase):
         lost = [play for play in graded.plays if play.loss]
         self.assertEqual(
             [(play.move, play.text, play.best.text) for play in lost],
-            [(19, "5/0 2/1", "5/off 5/4")],
+            [(19, "5/off 2/1", "5/off 5/4")],
         )
 
     def test_losses_are_those_of_the_program(self) -> None:
@@ -214,6 +226,37 @@ class Stored(unittest.TestCase):
             SHORT.replace("gnubg : 0", "A: 5  B : 0").replace(" root : 0", "J\u00fcrgen N. : 12")
         )
         self.assertEqual([player.name for player in named.players], ["A: 5  B", "J\u00fcrgen N."])
+
+    def test_half_a_match(self) -> None:
+        """What is left out is told, and which game has no end."""
+        lines = SHORT.split("\n")
+        half = "\n".join(lines[:24])
+        two = (
+            "\n".join([half, *lines[4:]])
+            .replace("Game 1", "Game 2")
+            .replace("Game 2", "Game 1", 1)
+        )
+        resigned = changed(28, "53: 5/0 6/3                 32: 2/0 4/1", "53: ")
+        for match, counts, unfinished in (
+            (SHORT, (13, 43, 29, 1, 0), ()),
+            ("\n".join(lines[:28]), (13, 43, 29, 1, 0), (1,)),
+            (half, (5, 35, 29, 1, 0), (1,)),
+            (two, (18, 78, 58, 2, 0), (1,)),
+            (resigned, (11, 42, 29, 1, 1), ()),
+            (SAVED, (13, 43, 29, 1, 0), ()),
+            (SAVED.replace("RE[B+1R]", ""), (13, 43, 29, 1, 0), (1,)),
+        ):
+            graded = of_text(match)
+            over, outside = sum(it.over_bound for it in graded.players), graded.outside
+            told = (len(graded.plays), graded.rolls, outside, over, graded.unplayed)
+            self.assertEqual((told, graded.unfinished), (counts, unfinished))
+            self.assertEqual(json.loads(graded.to_json())["unfinished_games"], [*unfinished])
+            line = (
+                "{} of {} rolls are graded. Left out: {} outside the bearoff, {} of more than 58"
+            )
+            self.assertIn(f"{line} pips, {{}} without a play.\n".format(*counts), graded.table())
+            line = "Unfinished in this file, and graded up to there: game 1.\n"
+            self.assertEqual(line in graded.table(), bool(unfinished))
 
     def test_what_is_saved(self) -> None:
         """The same match as GNU Backgammon saves it."""
@@ -307,157 +350,24 @@ class Refusals(unittest.TestCase):
         again = pickle.loads(pickle.dumps(error))
         self.assertEqual((str(again), vars(again)), (str(error), vars(error)))
 
-    def test_malformed(self) -> None:
-        end = SHORT.count("\n") + 2
-        for match, line, what in (
-            ("", 2, "the file ends before a game has begun"),
-            ("; nothing\n 7 point match\n", 4, "the file ends before a game has begun"),
-            ("\n\n 7 point match\n\n Game 1\n", 7, "the file ends before a game has begun"),
-            ("MZ\0\1", 1, "a match begins with its length"),
-            (SHORT.replace(" 1 point match", ""), 5, "a match begins with its length"),
-            at(3, "1 point match", "one point match", "a match begins with its length"),
-            at(5, "Game 1", "Game 2", "it should be game 1"),
-            (changed(5, "Game 1", ""), 6, "a game begins with its number"),
-            at(6, "root : 0", "root 0", "names both players"),
-            at(
-                6,
-                "gnubg : 0                      root : 0",
-                "  1) 31: 8/5 6/5",
-                "names both players",
-            ),
-            at(6, "gnubg", "A : 5 B", "where one name ends can't be told"),
-            at(8, " 2)", " 3)", "it should be move 2"),
-            at(8, " 2)", " 1)", "it should be move 2"),
-            at(8, " 2)", " 2", "neither a numbered move nor the end of a game"),
-            at(8, " 2) 32", " 2)      32", "whose column the move stands in can't be told"),
-            at(
-                8,
-                "43: 25/21 24/21",
-                "43: 25/21 24/21 65: 24/13",
-                "there are more entries than columns",
-            ),
-            at(7, "64: 24/18 18/14", "64: 24/18 18/14 11:", "there are more entries than columns"),
-            at(
-                9,
-                "21/20 24/20",
-                "21/20 24/x",
-                "neither a roll nor a double nor what answers one: 24/x",
-            ),
-            at(9, "41:", "47:", "neither a roll nor a double nor what answers one: 47:"),
-            at(9, "41: 21/20 24/20", "41: ????", "neither a roll nor a double"),
-            at(9, "41: 21/20 24/20", "Doubles => two", "neither a roll nor a double"),
-            at(9, "24/20", "20/24", "no checker moves so: 20/24"),
-            at(9, "24/20", "24/24", "no checker moves so: 24/24"),
-            at(9, "24/20", "26/22", "no checker moves so: 26/22"),
-            at(9, "24/20", "Cannot Move", "not a move: Cannot"),
-            (
-                SHORT + "\n Game 2\n gnubg : 0          boot : 1\n",
-                end + 1,
-                "are others than those before",
-            ),
-            (
-                SHORT + "\n Game 2\n\n Game 3\n",
-                end + 2,
-                "the players of the game before aren't named",
-            ),
-            (SHORT + "\n Game 2\n", end + 2, "the file ends before a game has begun"),
-            (SHORT + "\n 5 point match\n", end, "a second match begins"),
+    def test_rows(self) -> None:
+        for row, match, verdict, words in rows_of_matches():
+            if not verdict.startswith("read"):
+                reason, line = verdict.split()
+                self.refused(match, reason, int(line), words)
+                continue
+            told = read_match(match)
+            plays = f"read {len(told.plays)} {sum(play.is_bearoff for play in told.plays)}"
+            names = f"{told.length} {told.games} {' '.join(told.names)}"
+            self.assertEqual((plays, names), (verdict, words), row)
+
+    def test_no_play_of_the_roll(self) -> None:
+        for line, old, new, what in (
+            (25, "5/0 2/1", "5/0", "no play of 51 leads from 0,2,0,1,5,2 to 0,2,0,1,4,2"),
+            (28, "2/0 4/1", "4/2", "no play of 32 leads from 0,1,0,1,0,0 to 0,2,0,0,0,0"),
+            (28, "5/0 6/3", "Cannot Move", "no play of 53 leads from 1,0,0,0,3,2 to 1,0,0,0,3,2"),
         ):
-            self.refused(match, "malformed", line, what)
-
-    def test_illegal(self) -> None:
-        outside = "gnubg bears off with a checker outside the home board"
-        for match, line, what in (
-            at(7, "24/18 18/14", "23/22 22/21", "root has no checker on point 23"),
-            at(8, "24/21 13/11*", "24/21 22/20", "gnubg has no checker on point 22"),
-            at(8, "25/21 24/21", "13/9 13/10", "root moves with a checker on the bar"),
-            at(9, "21/20 24/20", "25/24 24/20", "gnubg has no checker on the bar"),
-            at(7, "24/18 18/14", "13/7 24/19", "on point 19 stand 5 checkers of the other player"),
-            at(7, "24/18 18/14", "24/18* 18/14", "no checker can be hit on point 18"),
-            at(7, "24/18 18/14", "24/18 6/1", "on point 1 stand 2 checkers of the other player"),
-            at(10, "15/9 15/9", "15/9 15/2", "the play is of more pips than the roll"),
-            at(22, "12/9 9/6 3/0 3/0", "12/8 3/0", outside),
-            at(7, "24/18 18/14", "24/13", "the play is of more pips than the roll"),
-            at(10, "21/15 21/15 15/9 15/9", "21/15(4)", "root has no checker on point 21"),
-            at(20, "13/11 11/5", "6/0 6/4", outside),
-            at(25, "5/0 2/1", "5/0", "no play of 51 leads from 0,2,0,1,5,2 to 0,2,0,1,4,2"),
-            at(28, "2/0 4/1", "4/2", "no play of 32 leads from 0,1,0,1,0,0 to 0,2,0,0,0,0"),
-            at(
-                28, "5/0 6/3", "Cannot Move", "no play of 53 leads from 1,0,0,0,3,2 to 1,0,0,0,3,2"
-            ),
-        ):
-            self.refused(match, "illegal", line, what)
-
-    def test_saved(self) -> None:
-        def other(old: str, new: str) -> str:
-            self.assertEqual(SAVED.count(old), 1, old)
-            return SAVED.replace(old, new)
-
-        once, head = SAVED.rstrip(), SAVED.split("\n")[0]
-        end = once.count("\n") + 1
-        for match, reason, line, what in (
-            ("(", "malformed", 1, "the last game has no end"),
-            ("()", "malformed", 2, "the file ends before a game has begun"),
-            ("(;W[31hefe])", "malformed", 1, "aren't named before its first move"),
-            ("(;GM[6])(;", "malformed", 1, "the players of the game before aren't named"),
-            (once[:-1], "malformed", end, "the last game has no end"),
-            (once + ")", "malformed", end, "what stands there is in no game"),
-            (once + "W[31hefe]", "malformed", end, "what stands there is in no game"),
-            (once + "\nx", "malformed", end + 1, "neither a property nor"),
-            (other("GM[6]", "GM[1]"), "variation", 1, "and not the game 1"),
-            (other("DT[", "RU[NackGammon]DT["), "variation", 1, "and not NackGammon"),
-            (other("DT[", "RU[Crawford:Jacoby:X]DT["), "variation", 1, "and not X"),
-            (
-                other("[length:1]", "[length:x]"),
-                "malformed",
-                1,
-                "the length of the match isn't told",
-            ),
-            (once + other("[length:1]", "[length:3]"), "malformed", end, "or is another one"),
-            (once + other("PB[root]", "PB[Bob]"), "malformed", end, "are others than those"),
-            (head + "\n;W[31hefe](;B[21])", "malformed", 2, "a game has variations"),
-            (head + "\n;AE[a:y])", "malformed", 2, "a position is set up"),
-            (head + "\n;W[31hefe]\n;W[31hefe])", "turn", 3, "the same player rolls twice"),
-            (head + "\n;W[31hefe]\n;B[41aa])", "malformed", 3, "no checker moves so: 24/24"),
-            (head + "\n;W[31hefe]\n;B[47ab])", "malformed", 3, "neither a roll nor a double"),
-            (head + "\n;W[31hef])", "malformed", 2, "neither a roll nor a double"),
-            (head + "\n;W[31eh])", "malformed", 2, "no checker moves so: 5/8"),
-            (head + "\n;W[31hefe]\n;B[resign])", "malformed", 3, "neither a roll nor a double"),
-            (head + "\n;W[31hefe]\n;B[65ya])", "illegal", 3, "root has no checker on the bar"),
-            (head + "\n;W[66hbfz])", "illegal", 2, "gnubg bears off with a checker outside"),
-        ):
-            self.refused(match, reason, line, what)
-        self.assertEqual(len(read_match(head + "\n;W[31hefe]\n;B[41ab])").plays), 2)
-        ruling = "[Crawford:CrawfordGame:Jacoby] [NoCube] [NoCube:Jacoby] [NoCube][Crawford] []"
-        for rules in (*ruling.split(), "[NoCube:Crawford:CrawfordGame]"):
-            ruled = read_match(other("DT[", f"RU{rules}DT["))
-            self.assertEqual(ruled, read_match(SAVED))
-        for variation in ("Nackgammon", "Hypergammon1", "Hypergammon2", "Hypergammon3"):
-            for rules in (f"[{variation}]", f"[NoCube:{variation}]", f"[NoCube][{variation}]"):
-                what = f"only backgammon is graded, and not {variation}"
-                self.refused(other("DT[", f"RU{rules}DT["), "variation", 1, what)
-
-    def test_turns(self) -> None:
-        over = SHORT.rstrip("\n") + "\n 23) 11: 3/2\n"
-        self.refused(over, "turn", len(over.split("\n")) - 1, "the game is over")
-        done = "\n 23) 31: 1/0 3/0                 62: 1/0\n 24) 65: 5/0 5/0\n"
-        again = SHORT.rstrip("\n").rpartition("\n")[0] + done
-        self.refused(again, "turn", again.count("\n"), "a player has borne off all checkers")
-        self.refused(
-            changed(8, "32: 24/21 13/11*", " " * 16), "turn", 8, "the same player rolls twice"
-        )
-
-    def test_other_games(self) -> None:
-        for variation in ("NackGammon", "Hypergammon (3)", ""):
-            self.refused(
-                f'; [Variation "{variation}"]\n{SHORT}',
-                "variation",
-                1,
-                "only backgammon is graded",
-            )
-        self.assertEqual(
-            rows(of_text(f'; [Variation "Backgammon"]\n{SHORT}')), rows(of_text(SHORT))
-        )
+            self.refused(changed(line, old, new), "illegal", line, what)
 
     def test_how_long_a_match_may_be(self) -> None:
         head = " 1 point match\n\n Game 1\n"
@@ -560,6 +470,13 @@ class Refusals(unittest.TestCase):
                         self.assertGreaterEqual(error.line, number)
 
 
+def sides_of(position: str) -> Tuple[List[int], List[int]]:
+    """The player on roll and the other one, by a Position ID."""
+    bits = int.from_bytes(base64.b64decode(f"{position}=="), "little")
+    counts = [len(ones) for ones in f"{bits:080b}"[::-1].split("0")]
+    return counts[25:50], counts[:25]
+
+
 @unittest.skipUnless(played(), "GNU Backgammon is not installed, so no match of it is graded")
 class Played(unittest.TestCase):
     def test_the_boards_are_its_own(self) -> None:
@@ -568,7 +485,7 @@ class Played(unittest.TestCase):
             self.assertEqual(len(told.plays), len(turns))
             for play, turn in zip(told.plays, turns):
                 with self.subTest(match=name, line=play.line):
-                    mine, other = notation._sides_of(turn["board"], "")
+                    mine, other = sides_of(turn["board"])
                     self.assertEqual(
                         ("XO"[play.player], list(play.dice)), (turn["player"], turn["dice"])
                     )
@@ -612,7 +529,7 @@ class Played(unittest.TestCase):
         for name, (match, turns, _) in played().items():
             graded, plays, wanted = of_text(match), read_match(match).plays, []
             for number, turn in enumerate(turns):
-                mine, other = notation._sides_of(turn["board"], "")
+                mine, other = sides_of(turn["board"])
                 last = number + 1 == len(turns) or turns[number + 1]["game"] != turn["game"]
                 high = max(point for point in range(25) if mine[point])
                 # the points of the other player from this one's side; the bar is behind them
@@ -626,33 +543,23 @@ class Played(unittest.TestCase):
 
 
 class Command(unittest.TestCase):
-    def run_it(
-        self, *words: str, environment: Optional[Dict[str, str]] = None
-    ) -> "subprocess.CompletedProcess[str]":
-        return subprocess.run(
-            [sys.executable, "-m", "bearoff", *words],
-            cwd=ROOT / "python",
-            env=environment,
-            stdout=subprocess.PIPE,
-            stderr=subprocess.PIPE,
-            encoding="utf-8",
-        )
-
     def test_a_table(self) -> None:
-        run = self.run_it("grade", str(STORED), str(FOLDER / FILES[58]))
+        run = run_command("grade", str(STORED), "--database", str(FOLDER / FILES[58]))
         graded = of_text(SHORT)
         self.assertEqual((run.returncode, run.stdout, run.stderr), (0, graded.table(), ""))
         lines = run.stdout.split("\n")
         self.assertEqual(lines[0].split()[:5], ["game", "move", "player", "position", "roll"])
         self.assertEqual(
-            lines[6].split(), "1 19 gnubg 0,2,0,1,5,2 51 5/0 2/1 0.0249 0.203 5/off 5/4".split()
+            lines[6].split(),
+            "1 19 gnubg 0,2,0,1,5,2 51 5/off 2/1 0.0249 0.203 5/off 5/4".split(),
         )
-        self.assertEqual(lines[7].split(), "1 19 root 0,3,1,2,1,0 32 3/0 2/0 0.0000 0.000".split())
+        row = "1 19 root 0,3,1,2,1,0 32 3/off 2/off 0.0000 0.000"
+        self.assertEqual(lines[7].split(), row.split())
         self.assertEqual(lines[-6].split(), "gnubg 5 5 1 0.0249 0.203 1".split())
         self.assertEqual(lines[-5].split(), "root 8 8 0 0.0000 0.000 0".split())
         self.assertEqual(lines[-2], grading.NOTE)
-        self.assertIn("no equity", grading.NOTE)
-        whole = self.run_it("grade", str(STORED))
+        self.assertIn("not in equity", grading.NOTE)
+        whole = run_command("grade", str(STORED))
         self.assertEqual((whole.returncode, whole.stderr), (0, ""))
         with Database.build(90) as board:
             self.assertEqual(whole.stdout, grade(STORED, board).table())
@@ -663,8 +570,8 @@ class Command(unittest.TestCase):
         [block] = re.findall(r"```text\n(game  move .*?)```", page, re.DOTALL)
         told = of_text(SHORT).table().split("\n")
         lines = block.rstrip("\n").split("\n")
-        self.assertEqual(len(lines), 7)
-        places = [told.index(line) for line in lines]
+        self.assertEqual(len(lines), 9)
+        places = [told.index(line) for line in lines if line]
         self.assertEqual(places, sorted(places))
 
     def test_names_that_a_terminal_would_obey(self) -> None:
@@ -682,25 +589,24 @@ class Command(unittest.TestCase):
             self.assertEqual(
                 re.sub(" +", " ", table.replace(name, "gnubg")), re.sub(" +", " ", wanted)
             )
-            self.assertEqual(
-                json.loads(graded.to_json())["players"][0]["name"], graded.players[0].name
-            )
+            [one, _] = json.loads(graded.to_json())["players"]
+            self.assertEqual(one["name"], graded.players[0].name)
         self.assertIn(hostile, of_text(match).players[0].name)
         with tempfile.TemporaryDirectory() as folder:
             for number, text in enumerate((match, saved, match.replace("5/0 2/1", "5/0"))):
                 file = Path(folder, f"{number}\x1b[31m\u202e.mat")
                 file.write_text(text, "utf-8")
-                run = self.run_it("grade", str(file), str(FOLDER / FILES[58]))
+                run = run_command("grade", str(file), "--database", str(FOLDER / FILES[58]))
                 said = run.stdout + run.stderr
                 self.assertTrue(all(line.isprintable() for line in said.split("\n")), said)
                 self.assertEqual(run.returncode, 0 if number < 2 else 3)
-                run = self.run_it("grade", f"{file}.none\x1b", str(FOLDER / FILES[58]))
+                run = run_command("grade", f"{file}.none\x1b")
                 self.assertTrue(run.stderr.rstrip("\n").isprintable(), run.stderr)
-                run = self.run_it("grade", str(STORED), str(file))
+                run = run_command("grade", str(STORED), "--database", str(file))
                 self.assertTrue(run.stderr.rstrip("\n").isprintable(), run.stderr)
 
     def test_json(self) -> None:
-        run = self.run_it("grade", "--json", str(STORED), str(FOLDER / FILES[58]))
+        run = run_command("grade", "--json", str(STORED), "--database", str(FOLDER / FILES[58]))
         graded, told = of_text(SHORT), json.loads(run.stdout)
         self.assertEqual((run.returncode, run.stderr), (0, ""))
         self.assertEqual(
@@ -709,31 +615,21 @@ class Command(unittest.TestCase):
         )
         self.assertEqual(len(told["plays"]), len(graded.plays))
         for row, play in zip(told["plays"], graded.plays):
-            self.assertEqual(
-                (row["game"], row["move"], row["line"]), (play.game, play.move, play.line)
-            )
-            told_of = (play.player, [*play.position], [*play.dice])
-            self.assertEqual((row["player"], row["position"], row["roll"]), told_of)
-            self.assertEqual(
-                (row["play"], row["to"], row["choices"]), (play.text, [*play.to], play.choices)
-            )
-            self.assertEqual((row["best"], row["best_to"]), (play.best.text, [*play.best.to]))
+            names = ("game", "move", "line", "player", "choices")
+            wanted: Dict[str, Any] = {name: getattr(play, name) for name in names}
+            wanted |= {"position": [*play.position], "roll": [*play.dice], "to": [*play.to]}
+            wanted |= {"play": play.text, "best": play.best.text, "best_to": [*play.best.to]}
+            self.assertEqual({**row, **wanted}, row)
             self.compare_losses(row, play.loss)
         for row, player in zip(told["players"], graded.players):
-            self.assertEqual(
-                (row["name"], row["plays"], row["losing"]),
-                (player.name, player.plays, player.losing),
-            )
-            self.assertEqual(
-                (row["with_a_choice"], row["over_the_bound"]), (player.choices, player.over_bound)
-            )
+            wanted = {name: getattr(player, name) for name in ("name", "plays", "losing")}
+            wanted |= {"with_a_choice": player.choices, "over_the_bound": player.over_bound}
+            self.assertEqual({**row, **wanted}, row)
             self.compare_losses(row, player.loss)
 
     def compare_losses(self, row: Dict[str, Any], loss: Fraction) -> None:
-        self.assertEqual(
-            (Fraction(row["rolls_lost"]), row["rolls_lost_float"]), (loss, float(loss))
-        )
-        self.assertIn("/", row["rolls_lost"])
+        self.assertEqual(row["rolls_lost"], f"{loss.numerator}/{loss.denominator}")
+        self.assertEqual(row["rolls_lost_float"], float(loss))
         self.assertEqual(row["pips_lost_float"], float(loss * 49 / 6))
 
     def test_what_goes_wrong(self) -> None:
@@ -748,7 +644,7 @@ class Command(unittest.TestCase):
                 (
                     (str(STORED), str(empty)),
                     3,
-                    f"bearoff: {empty}: no right database: header too-short",
+                    f"bearoff: {empty}: not a valid database: header too-",
                 ),
                 (
                     (str(STORED), f"{folder}/none"),
@@ -757,26 +653,20 @@ class Command(unittest.TestCase):
                 ),
                 ((f"{folder}/none", race), 1, "bearoff: [Errno 2] No such file or directory"),
                 ((folder, race), 1, "bearoff: [Errno 21] Is a directory"),
-                ((), 2, "usage: python -m bearoff grade"),
             ):
-                run = self.run_it("grade", *words)
+                run = run_command("grade", words[0], "--database", words[1])
                 self.assertEqual((run.returncode, run.stdout), (status, ""), run.stderr)
                 self.assertTrue(run.stderr.startswith(line), run.stderr)
                 self.assertNotIn("Traceback", run.stderr)
-            self.assertEqual(self.run_it().returncode, 2)
-            other = {**os.environ, "BEAROFF_LIBRARY": str(empty)}
-            run = self.run_it("grade", str(STORED), race, environment=other)
+            for asked in ((), ("grade",), ("grade", str(STORED), race)):
+                self.assertEqual(run_command(*asked).returncode, 2)
+            run = run_command("grade", str(STORED), BEAROFF_LIBRARY=str(empty))
             self.assertEqual((run.returncode, run.stdout), (1, ""))
             self.assertIn("is no library", run.stderr)
         with open("/dev/full", "w") as full:
-            command = [sys.executable, "-m", "bearoff", "grade", str(STORED), race]
-            full_run = subprocess.run(
-                command, cwd=ROOT / "python", stdout=full, stderr=subprocess.PIPE, encoding="utf-8"
-            )
-        self.assertEqual(
-            (full_run.returncode, full_run.stderr),
-            (1, "bearoff: [Errno 28] No space left on device\n"),
-        )
+            run = run_command("grade", str(STORED), stdout=full)
+        wanted = (1, "bearoff: [Errno 28] No space left on device\n")
+        self.assertEqual((run.returncode, run.stderr), wanted)
 
     def test_names_that_are_of_another_code(self) -> None:
         with tempfile.TemporaryDirectory() as folder:

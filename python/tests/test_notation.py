@@ -20,7 +20,7 @@ from pathlib import Path
 from typing import Any, Dict, List, Optional, Tuple
 from urllib.parse import unquote
 
-from bearoff import BadArgument, BearoffError, Database, NoRace, Position, Refused, notation
+from bearoff import BadArgument, BearoffError, Database, NotARace, Position, Refused, notation
 from bearoff.notation import REASONS, OnRoll, Race, from_gnubg, from_xgid, read, to_gnubg, to_xgid
 
 ROOT = Path(__file__).parents[2]
@@ -87,7 +87,7 @@ class Texts(unittest.TestCase):
         self.assertGreater(len(TEXTS["refused"]), 60)
         self.assertEqual({reason for _, reason, _ in TEXTS["refused"]}, set(REASONS))
         for text, reason, line in TEXTS["refused"]:
-            with self.subTest(text=text), self.assertRaises(NoRace) as refused:
+            with self.subTest(text=text), self.assertRaises(NotARace) as refused:
                 read(text)
             error = refused.exception
             self.assertEqual((error.reason, str(error), error.line), (reason, line, line))
@@ -102,9 +102,9 @@ class Texts(unittest.TestCase):
             _, verdict, *coded = row.split(" ", 2)
             asked = unquote(*coded or [""])
             try:
-                Database.standing(asked)
+                Database.position_info(asked)
                 told = str(read(asked).mine)
-            except (NoRace, Refused) as refused:
+            except (NotARace, Refused) as refused:
                 is_many = isinstance(refused, Refused) or refused.reason == "too-many"
                 told = "too-many" if is_many else "bad-text"
             self.assertEqual(told, verdict, asked)
@@ -113,10 +113,10 @@ class Texts(unittest.TestCase):
     def test_one_notation(self) -> None:
         """The reader of one notation doesn't take the other one."""
         for text in ("xwQAgHY8AAAAAA", "xwQAgHY8AAAAAA:cAkFAAAAAAAE", "1,2,3,0,0,4", ""):
-            with self.assertRaises(NoRace):
+            with self.assertRaises(NotARace):
                 from_xgid(text)
         for text in ("XGID=-ABC--D------------a-b--c-:0:0:1:21:0:0:0:0:10", "1,2,3,0,0,4", ""):
-            with self.assertRaises(NoRace):
+            with self.assertRaises(NotARace):
                 from_gnubg(text)
 
     def test_no_texts(self) -> None:
@@ -135,12 +135,12 @@ class Texts(unittest.TestCase):
             for call in (read, from_xgid, from_gnubg):
                 try:
                     call(text)
-                except NoRace as refused:
+                except NotARace as refused:
                     self.assertTrue(str(refused).isprintable())
         many, space = 10**6, " " * 10**6
         repeated = [part * many for part in (":", "1,", "A", "9")]
         for long in (*repeated, f"{space}x{space}y", f"1{space}x"):
-            with self.assertRaises(NoRace) as error:
+            with self.assertRaises(NotARace) as error:
                 read(long)
             self.assertLess(len(str(error.exception)), 300)
 
@@ -154,7 +154,7 @@ class Texts(unittest.TestCase):
                     with self.assertRaises(BadArgument) as refused:
                         call(long)
                     self.assertLess(len(str(refused.exception)), 300)
-                with self.assertRaises(NoRace) as error:
+                with self.assertRaises(NotARace) as error:
                     read(long)
                 what = "a text of more than 1000 characters is no position"
                 self.assertTrue(str(error.exception).startswith(what), str(error.exception))
@@ -162,17 +162,19 @@ class Texts(unittest.TestCase):
         self.assertEqual(Position.parse(counts.ljust(1000)), SIX)
 
     def test_without_library(self) -> None:
-        read = "read('xwQAgHY8AAAAAA:MAEFAAAAAAAE')"
-        script = f"from bearoff.notation import read, to_xgid; print(to_xgid({read}))"
+        """A race is written, and none is read."""
+        race = "Race((1, 2, 3, 0, 0, 4), '3,0,0,2,0,1', (2, 1), 'top')"
+        script = f"from bearoff.notation import *; xgid = to_xgid({race}); print(xgid); read(xgid)"
         run = subprocess.run(
             [sys.executable, "-c", script],
             cwd=ROOT / "python",
             env={**os.environ, "BEAROFF_LIBRARY": "/nowhere"},
             stdout=subprocess.PIPE,
+            stderr=subprocess.PIPE,
             encoding="ascii",
-            check=True,
         )
         self.assertEqual(run.stdout, "XGID=-C--B-A------------d--cba-:0:0:-1:21:0:0:0:0:10\n")
+        self.assertIn("NoLibrary: /nowhere is no library", run.stderr)
 
 
 class Examples(unittest.TestCase):
@@ -268,12 +270,13 @@ class AgainstGnubg(unittest.TestCase):
                 self.assertEqual(race.on_roll, on_roll_of(said) or race.on_roll)
 
     def test_changed(self) -> None:
-        """One character is changed: the text is refused, or read as GNU Backgammon reads it."""
+        """One character is changed, and not the game: the text is refused, or read as GNU
+        Backgammon reads it."""
         answered = 0
         for said in gnubg()["changed"]:
             try:
                 race = read(said["text"])
-            except NoRace:
+            except NotARace:
                 continue
             answered += 1
             with self.subTest(text=said["text"]):

@@ -5,11 +5,12 @@ import contextlib
 import importlib
 import math
 import unittest
+from fractions import Fraction
 from typing import Any, Tuple
 
-from bearoff import WEIGHTS, WHOLE, BadArgument, BearoffError
+from bearoff import WHOLE, BadArgument, BearoffError
 
-from .given import database, positions
+from .given import database, numbers, positions
 
 try:
     numpy: Any = importlib.import_module("numpy")
@@ -23,32 +24,30 @@ class Arrays(unittest.TestCase):
         here = database(44)
         for table, kind in (
             (here.positions(), "uint8"),
-            (here.means(), "uint64"),
-            (here.epcs(), "uint64"),
-            (here.distributions(), "uint64"),
+            (here.means(), "float64"),
+            (here.distributions(), "float64"),
+            (here.means(words=True), "uint64"),
+            (here.epcs(words=True), "uint64"),
+            (here.distributions(words=True), "uint64"),
         ):
             array, flat = numpy.asarray(table), numpy.frombuffer(table, kind)
-            self.assertEqual(
-                (array.shape, str(array.dtype), array.flags.writeable), (table.shape, kind, True)
-            )
+            told = (array.shape, str(array.dtype), array.flags.writeable)
+            self.assertEqual(told, (table.shape, kind, True))
             self.assertTrue(numpy.shares_memory(array, table) and numpy.shares_memory(flat, table))
             self.assertTrue((flat.reshape(table.shape) == array).all())
 
     def test_numbers(self) -> None:
         here, found = database(44), positions(44)
-        self.assertEqual(
-            numpy.asarray(here.positions()).tolist(), [list(position) for position in found]
-        )
+        rows = numpy.asarray(here.positions()).tolist()
+        self.assertEqual(rows, [list(position) for position in found])
         exact = [here.mean(position) for position in found]
-        means = numpy.asarray(here.means())
-        self.assertEqual(
-            [(int(high) << 64) + int(low) for high, low in means], [mean * WHOLE for mean in exact]
-        )
-        self.assertLess((abs(means @ WEIGHTS - [float(mean) for mean in exact])).max(), 1e-14)
-        sums = (numpy.asarray(here.distributions()) @ WEIGHTS).sum(axis=1)
+        means = numpy.asarray(here.means(words=True))
+        self.assertEqual(numbers(here.means(words=True)), [mean * WHOLE for mean in exact])
+        self.assertLess((abs(means @ here.weights - [float(mean) for mean in exact])).max(), 1e-14)
+        sums = (numpy.asarray(here.distributions(words=True)) @ here.weights).sum(axis=1)
         self.assertLess(abs(sums - 1).max(), 1e-14)
         thousandths = [here.epc(position).thousandths for position in found]
-        self.assertEqual(numpy.asarray(here.epcs())[:, 4].tolist(), thousandths)
+        self.assertEqual(numpy.asarray(here.epcs(words=True))[:, 6].tolist(), thousandths)
 
     def test_a_row_is_a_position(self) -> None:
         here = database(44)
@@ -122,7 +121,7 @@ class Numbers(unittest.TestCase):
         numbers = [numpy.float64(10.5), numpy.float32(0.5), numpy.int64(3), numpy.uint8(2)]
         numbers += [numpy.array([1.0, 99.0]), numpy.array([1, 2]), 57, 0.5]
         for pips in (here.epc("0,0,0,4,4,1"), here.wastage("0,0,0,4,4,1")):
-            exact = pips.exact
+            exact = Fraction(pips)
             for name in operators:
                 compute = getattr(numpy, name)
                 for other in numbers:
@@ -137,7 +136,7 @@ class Numbers(unittest.TestCase):
     def test_as_one_number(self) -> None:
         here = database(8)
         epc = here.epc("0,0,0,0,0,1")
-        exact = epc.exact
+        exact = Fraction(epc)
         self.assertEqual(numpy.mean([epc, 57]), (exact + 57) / 2)
         self.assertEqual(numpy.float64(10.5) - epc, 10.5 - exact)
         self.assertEqual(numpy.array([1.0, 2.0]).shape, (numpy.array([1.0, 2.0]) * epc).shape)
@@ -147,7 +146,7 @@ class Numbers(unittest.TestCase):
         self.assertEqual(array.sum(), sum(several))
         self.assertEqual(numpy.max(several), max(several))
         floats = numpy.array(several, float)
-        self.assertEqual(floats.tolist(), here.epcs(floats=True).tolist())
+        self.assertEqual(floats.tolist(), here.epcs().tolist())
         self.assertEqual(numpy.argsort(several).tolist(), numpy.argsort(floats).tolist())
         self.assertEqual(numpy.float64(epc), float(epc))
 

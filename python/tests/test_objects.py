@@ -3,7 +3,6 @@ the version."""
 
 import collections.abc
 import copy
-import hashlib
 import multiprocessing
 import os
 import pickle
@@ -86,9 +85,8 @@ class Objects(unittest.TestCase):
             repr(database(44)),
             f"<bearoff.Database: 44 pips, 26314 positions, version 1, {file!r}>",
         )
-        self.assertEqual(
-            repr(Database.build(8)), "<bearoff.Database: 8 pips, 64 positions, version 1>"
-        )
+        shown = "<bearoff.Database: 8 pips, 64 positions, version 1>"
+        self.assertEqual(repr(Database.build(8)), shown)
 
     def test_with_closes(self) -> None:
         with Database.open(FOLDER / "eight") as here:
@@ -266,14 +264,14 @@ class Threads(unittest.TestCase):
     def test_closing_while_others_ask(self) -> None:
         for _ in range(10):
             here = Database.open(FOLDER / "eight")
-            table = bytes(here.distributions())
+            table = bytes(here.distributions(words=True))
 
             def ask() -> int:
                 try:
                     while True:
                         if (
                             here.mean(SIX) != Fraction(5, 4)
-                            or bytes(here.distributions()) != table
+                            or bytes(here.distributions(words=True)) != table
                         ):
                             return 0
                 except Refused as refused:
@@ -318,7 +316,7 @@ class Versions(unittest.TestCase):
         statuses = {
             name: int(number) for name, number in re.findall(r"BEAROFF_([A-Z_]+) = (\d+),", header)
         }
-        for name in ("NOT_OPEN", "TOO_MANY", "OVER_BOUND", "SHORT"):
+        for name in ("NOT_OPEN", "TOO_MANY", "OVER_BOUND", "BUFFER_TOO_SMALL"):
             self.assertEqual(getattr(bearoff.errors, name), statuses[name], name)
 
     def test_which_versions_are_enough(self) -> None:
@@ -350,7 +348,7 @@ class Versions(unittest.TestCase):
                     f"{later} is of version 2.3.4, "
                     f"and this package of version {bearoff.__version__}",
                 ),
-                (empty, f"{empty} has no function bearoff_standing"),
+                (empty, f"{empty} has no function bearoff_position_info"),
                 (source, f"{source} is no library: "),
                 (Path(folder, "missing.so"), f"{folder}/missing.so is no library: "),
                 (Path("libm.so.6"), "libm.so.6 has no function bearoff_library_version"),

@@ -85,7 +85,7 @@ NO_POSITIONS: Tuple[Any, ...] = (
     *({0, 1, 2, 3, 4, 5}, frozenset(range(6)), dict.fromkeys(range(6), 0)),
     *(iter(SIX), (c for c in SIX)),
     *("", " ", "0", "0,0,0,0,0", "0,0,0,0,0,0,0", "0 0 0 0,0 1", "0,0,0,0,0,1 0"),
-    *("0,0,0,0,0,1\f", "0,0,0,0,0,1\u2003"),
+    *("0,0,0,0,0,1\v", "0,0,0,0,0,1\u2003"),
     *(f"0,0,0,0,0,{it}" for it in ("-1", "+1", "01", "1000", "1.0", "", "\u0661", "1\0")),
     *(",0,0,0,0,0", "0;0;0;0;0,1", "000001", "\ud800", "a" * 10**6, "mean 0,0,0,0,0,1"),
     *(b"", b"0,0,0,0,0,1", bytearray(5), memoryview(bytes(48)), Long([1, 2]), Endless()),
@@ -168,7 +168,7 @@ def calls_of(here: Database) -> Dict[str, Calls]:
 
     return {
         "mean": (
-            *(here.mean, here.epc, here.wastage, here.distribution, here.rank),
+            *(here.mean, here.epc, here.wastage, here.distribution, here.variance, here.rank),
             lambda counts: here.within(counts, 3),
         ),
         "play": (here.play, here.moves),
@@ -197,7 +197,7 @@ class Refusals(Compared):
                 here.wastage,
                 here.distribution,
                 here.rank,
-                here.standing,
+                here.position_info,
             ):
                 self.bad(call, wrong)
             self.assertIs(wrong in here, False)
@@ -237,10 +237,10 @@ class Refusals(Compared):
         here = database(8)
         for wrong in NO_RANKS:
             self.bad(here.within, SIX, wrong)
-            self.bad(here.withins, wrong)
+            self.bad(here.cdf, wrong)
         for many in (22, 23, 255, 256, 2**64, HUGE):
             self.assertEqual(here.within(SIX, many), 1)
-            self.assertEqual(set(here.withins(many, floats=True)), {1.0})
+            self.assertEqual(set(here.cdf(many)), {1.0})
         self.refused(3, here.within, "16,0,0,0,0,0", 1)
 
     def test_an_index_that_is_none(self) -> None:
@@ -296,7 +296,7 @@ class Refusals(Compared):
             for ask in (here.mean, here.epc, here.wastage, here.distribution, here.rank):
                 self.bad(ask, wrong)
             self.bad(here.within, wrong, 1)
-            self.bad(here.standing, wrong)
+            self.bad(here.position_info, wrong)
             self.bad(here.ranks, wrong)
             self.bad(here.ranks, [SIX, wrong])
             self.assertNotIn(wrong, here)
@@ -310,7 +310,7 @@ class Refusals(Compared):
         for number in (file, memoryview(b"1")):
             self.bad(here.position, number)
             self.bad(here.within, SIX, number)
-            self.bad(here.withins, number)
+            self.bad(here.cdf, number)
             self.bad(here.__getitem__, number)
             self.bad(here.answer, number)
             self.bad(Database.build, number)
@@ -322,7 +322,7 @@ class Refusals(Compared):
     def each_kind(self, ask: Callable[[Database], None]) -> None:
         """Asks a database and a board of 8 pips."""
         for content in (bytes(database(8)), board(8)):
-            with Database(content) as here, self.subTest(whole=here.whole):
+            with Database(content) as here, self.subTest(whole=here.denominator):
                 ask(here)
 
     def test_positions_that_have_no_answer(self) -> None:
@@ -352,14 +352,13 @@ class Refusals(Compared):
             self.assertEqual(told, "no checker is left: 0,0,0,0,0,0 with (2, 1)")
             self.refused(3, call, (256,) * 6, (2, 1))
         told = self.refused(6, here.loss, SIX, (2, 1), "1,0,0,0,0,0")
-        self.assertEqual(
-            told, "the roll doesn't lead there: 0,0,0,0,0,1 with (2, 1) to 1,0,0,0,0,0"
-        )
+        line = "the roll doesn't lead there: 0,0,0,0,0,1 with (2, 1) to 1,0,0,0,0,0"
+        self.assertEqual(told, line)
         told = self.refused(6, here.play_to, SIX, "21", "1,0,0,0,0,0")
         self.assertEqual(told, "the roll doesn't lead there: 0,0,0,0,0,1 with '21' to 1,0,0,0,0,0")
         for with_target in (here.loss, here.play_to):
             self.refused(3, with_target, SIX, (2, 1), (16, 0, 0, 0, 0, 0))
-        self.refused(3, here.standing, (255,) * 6)
+        self.refused(3, here.position_info, (255,) * 6)
         for outside in ((1, 15, 0, 0, 0, 0), "0,0,1,0,0,1", (255,) * 6):
             self.assertNotIn(outside, here)
         self.assertEqual(here.mean(Angry()), 0)
@@ -404,7 +403,7 @@ class Refusals(Compared):
             states["closed"].close()
             for line in (ROOT / "tests/refusals.txt").read_text("ascii").splitlines():
                 # nobody lends a room here
-                if line.startswith("#") or line.endswith(" short"):
+                if line.startswith("#") or line.endswith(" buffer-too-small"):
                     continue
                 call, state, at, roll, to, told, *_ = line.split()
                 here = states[state]
@@ -413,7 +412,7 @@ class Refusals(Compared):
                 lists[1:2] = [[*map(int, roll)]] if roll != "-" else []
                 for ask in calls_of(here).get(call, ()):
                     for words in (texts, lists):
-                        with self.subTest(row=line, words=words, whole=states["open"].whole):
+                        with self.subTest(row=line, words=words, whole=states["open"].denominator):
                             self.assertEqual(name_of(ask, *words), told)
                         count += 1
                 if call == "mean" and told not in ("none", "bad-line"):
@@ -431,7 +430,7 @@ class Refusals(Compared):
             (here.__getitem__, (slice("a", None),)),
             (here.__getitem__, (slice(None, None, 0),)),
             (here.within, (SIX, -1)),
-            (here.withins, (None,)),
+            (here.cdf, (None,)),
             (here.ranks, ("0,0,0,0,0,1",)),
             (here.ranks, (5,)),
             (here.answer, (b"mean",)),
@@ -464,13 +463,13 @@ class Refusals(Compared):
         for place in (0, -1, 99, slice(2)):
             self.refused(1, here.__getitem__, place)
         self.assertEqual(
-            (here.standing(SIX).pips, here.play_to(SIX, "65", (0,) * 6).text), (6, "6/off")
+            (here.position_info(SIX).pips, here.play_to(SIX, "65", (0,) * 6).text), (6, "6/off")
         )
         with_roll: Calls = (here.play, here.moves)
         for call in with_roll:
             self.refused(1, call, SIX, (2, 1))
         tables: Calls = (here.positions, here.means, here.epcs, here.wastages, here.distributions)
-        asks: Calls = (*tables, lambda: here.withins(3), here.upgrade, here.__enter__)
+        asks: Calls = (*tables, lambda: here.cdf(3), here.upgrade, here.__enter__)
         for ask in asks:
             self.refused(1, ask)
         any_of_it: Calls = (len, iter, bytes, list, pickle.dumps)
@@ -481,7 +480,8 @@ class Refusals(Compared):
         self.refused(1, here.answer, "rank 0,0,0,0,0,1")
         self.refused(1, lambda: here.version)
         self.refused(1, lambda: here.bound)
-        self.refused(1, lambda: here.whole)
+        self.refused(1, lambda: here.denominator)
+        self.refused(1, lambda: here.weights)
         self.assertEqual(repr(here), "<bearoff.Database: closed>")
         self.assertTrue(here)
 

@@ -19,7 +19,7 @@ ALLOWED = """
 from fractions import Fraction
 from typing import List, Tuple
 import bearoff
-from bearoff import Database, EffectivePips, Graded, Play, Position, Standing, Wastage
+from bearoff import Database, EffectivePips, Graded, Play, Position, PositionInfo, Wastage
 
 def ask(here: Database, counts: List[int], dice: Tuple[int, int]) -> None:
     mean: Fraction = here.mean(counts)
@@ -27,10 +27,10 @@ def ask(here: Database, counts: List[int], dice: Tuple[int, int]) -> None:
     wastage: Wastage = here.wastage((0, 0, 0, 0, 0, 1))
     chance: Fraction = here.within(Position(0, 0, 0, 0, 0, 1), 3)
     play: Play = here.play_to(counts, "21", counts)
-    stand: Standing = Database.standing(range(6))
+    stand: PositionInfo = Database.position_info(range(6))
     first: Position = here[0]
     some: List[Position] = here[1:3]
-    table: memoryview = here.means(floats=True)
+    table: memoryview = here.means()
     ranks: memoryview = here.ranks([counts, "0,0,0,0,0,1", first])
     again: memoryview = here.ranks(here.positions())
     loss: Fraction = here.loss(counts, dice, play.to)
@@ -68,7 +68,7 @@ def ask(
     mean: Fraction = here.mean(rows[0])
     play: Play = here.play(rows[0], dice)
     loss: Fraction = here.loss(rows[0], dice, rows[1])
-    means = numpy.asarray(here.means(floats=True))[ranks]
+    means = numpy.asarray(here.means())[ranks]
     print(means @ means, mean, play, loss, here.epc(numpy.zeros(6, int)))
     print(here[numpy.int64(3)], rows[0] in here)
     print(here.position(numpy.uint16(3)), here.within(rows[0], numpy.int32(3)))

@@ -11,14 +11,16 @@ import shutil
 import signal
 import sqlite3
 import stat
+import subprocess
+import sys
 import tempfile
 import threading
 import unittest
 from contextlib import closing
+from functools import partial
 from pathlib import Path
-from struct import pack
 from types import SimpleNamespace
-from typing import Any, Callable, Dict, List, Optional, Tuple
+from typing import Any, Callable, Dict, Iterator, List, Optional
 from unittest import mock
 
 from bearoff import BadArgument, Database, __main__, _writing, export, gnubg
@@ -27,22 +29,23 @@ from .given import FILES, FOLDER, database
 
 EIGHT = str(FOLDER / FILES[8])
 OLD = b"what stood there before"
-WRITERS = {
-    "csv": ("export", "--database", EIGHT),
-    "json": ("export", "--database", EIGHT),
-    "sqlite": ("export", "--database", EIGHT),
-    "sqlite3": ("export", "--database", EIGHT),
-    "bd": ("gnubg", "write", EIGHT),
-}
-"""Each command that writes a file, by the ending of its name, with the words before that."""
+TABLE = ("export", "--database", EIGHT)
+WHOLE = {"csv": TABLE, "json": TABLE, "bd": ("gnubg", "write", EIGHT)}
+"""Each command that replaces a file, by the ending of its name, with the words before that."""
+WRITERS = {**WHOLE, "sqlite": TABLE, "sqlite3": TABLE}
+"""Each command that writes a file, likewise."""
 
-CALLS = "open write fstat fchown fchmod removexattr setxattr fsync link replace close".split()
+CALLS = "open readlink lstat stat fstat write fchmod fsync link replace close".split()
 """The calls of the system at which a run is stopped."""
+
+PLACED = "write fsync link replace fsync".split()
+"""Those that bring a new file to its place, in their order."""
 
 STOPPED = 99
 """The status of a run that went on behind what should have ended it."""
 
-MODE, OWNER = 0o604, 12345
+MODE = 0o604
+NOBODY = 65534
 
 
 class Folder(unittest.TestCase):
@@ -51,9 +54,6 @@ class Folder(unittest.TestCase):
         self.addCleanup(shutil.rmtree, self.folder)
         os.chmod(self.folder, 0o755)
         self.errors = self.folder / "errors"
-        # what a run leaves where it keeps what it works on
-        self.work = self.folder / "work"
-        self.work.mkdir()
         self.kept = self.folder / "kept"
         self.kept.mkdir()
 
@@ -66,7 +66,6 @@ class Folder(unittest.TestCase):
             return os.waitstatus_to_exitcode(os.waitpid(child, 0)[1])
         try:
             with open(self.errors, "w") as errors, mock.patch("sys.argv", ["", *words]):
-                tempfile.tempdir = str(self.work)
                 # a board file takes seconds, and what it says is compared elsewhere
                 given = mock.patch.object(gnubg, "to_file", bytes)
                 with given, contextlib.redirect_stderr(errors):
@@ -80,18 +79,27 @@ class Folder(unittest.TestCase):
         finally:
             os._exit(STOPPED)
 
-    def put(self, name: str, content: bytes = OLD) -> Path:
-        """A file of an odd mode, and, where that can be done, of another owner."""
+    @contextlib.contextmanager
+    def meanwhile(self, does: Callable[..., None], *given: object) -> Iterator[None]:
+        """Another process does something again and again."""
+        child = os.fork()
+        while not child:
+            with contextlib.suppress(Exception):
+                does(*given)
+        try:
+            yield
+        finally:
+            os.kill(child, signal.SIGKILL)
+            os.waitpid(child, 0)
+
+    def put(self, name: str, content: bytes = OLD, mode: int = MODE) -> Path:
         file = self.kept / name
         file.write_bytes(content)
-        if os.getuid() == 0:
-            os.chown(file, OWNER, OWNER + 1)
-        os.chmod(file, MODE)
+        os.chmod(file, mode)
         return file
 
     def names(self) -> List[str]:
-        """The files here, but those of the test itself."""
-        return sorted(it.name for it in [*self.kept.iterdir(), *self.work.iterdir()])
+        return sorted(it.name for it in self.kept.iterdir())
 
 
 class Stop:
@@ -124,14 +132,11 @@ def fail() -> None:
     raise OSError(errno.EIO, "Input/output error")
 
 
+SIGNALS = {"killed": 9, "asked to end": 15, "hung up": 1, "interrupted": 2}
 WAYS: Dict[str, Callable[[], object]] = {
-    "killed": lambda: os.kill(os.getpid(), signal.SIGKILL),
-    "asked to end": lambda: os.kill(os.getpid(), signal.SIGTERM),
-    "hung up": lambda: os.kill(os.getpid(), signal.SIGHUP),
-    "interrupted": lambda: os.kill(os.getpid(), signal.SIGINT),
+    **{way: partial(signal.raise_signal, number) for way, number in SIGNALS.items()},
     "a failed call": fail,
 }
-SIGNALS = {"killed": 9, "asked to end": 15, "hung up": 1, "interrupted": 2}
 
 
 class Stopped(Folder):
@@ -155,7 +160,7 @@ class Stopped(Folder):
             def before() -> None:
                 Stop(len(seen) + 1, WAYS[way]).put_into(_writing)
                 if has_none:
-                    setattr(_writing, "_OPEN_FILES", "/proc/no/such")
+                    setattr(_writing, "_UNNAMED", "/proc/no/such")
 
             status = self.child(words, before)
             at = (self.folder / "seen").read_text()
@@ -171,10 +176,7 @@ class Stopped(Folder):
                         self.assertEqual(content.count(b"\n"), 65, told)
             if is_there:
                 self.assertTrue(target.exists(), told)
-                now = target.stat()
-                self.assertEqual(stat.S_IMODE(now.st_mode), MODE, told)
-                if os.getuid() == 0:
-                    self.assertEqual((now.st_uid, now.st_gid), (OWNER, OWNER + 1), told)
+                self.assertEqual(stat.S_IMODE(target.stat().st_mode), MODE, told)
             self.assertEqual(os.readlink(self.kept / f"link.{ending}"), target.name, told)
             if way == "killed" and (at == "replace" or has_none):
                 # its name, and then the one step into the place
@@ -193,10 +195,9 @@ class Stopped(Folder):
                 self.assertNotEqual(target.read_bytes(), OLD)
                 return seen
             if way == "a failed call":
-                # without a call that may fail the file is as it should be
-                may_fail = at in ("removexattr", "open")
+                # without its first way to open a new file it has another
                 line = "bearoff: [Errno 5] Input/output error"
-                if status or not may_fail:
+                if status or at != "open":
                     self.assertEqual((status, told[-1][: len(line)]), (1, line), told)
                     self.assertEqual(told[-1].count("\n"), 1, told)
             else:
@@ -204,16 +205,14 @@ class Stopped(Folder):
             seen.append(at)
 
     def test_each_call(self) -> None:
-        for ending in WRITERS:
+        for ending in WHOLE:
             for way in WAYS:
                 for is_there in (True, False):
                     if ending != "csv" and way in ("hung up", "interrupted"):
                         continue
                     seen = self.runs(ending, way, is_there)
-                    place = [
-                        name for name in seen if name in ("write", "fsync", "link", "replace")
-                    ]
-                    self.assertEqual(place, ["write", "fsync", "link", "replace", "fsync"], seen)
+                    place = [name for name in seen if name in PLACED]
+                    self.assertEqual(place, PLACED, seen)
 
     def test_where_a_new_file_has_a_name_at_once(self) -> None:
         for way in WAYS:
@@ -221,21 +220,113 @@ class Stopped(Folder):
                 seen = self.runs("csv", way, is_there, has_none=True)
                 self.assertNotIn("link", seen)
 
-    def test_a_table_that_is_being_made(self) -> None:
-        """A run that is asked to end while SQLite writes leaves nothing of that."""
-        target = self.put("table.sqlite")
 
-        def before() -> None:
+class Tables(Folder):
+    """SQLite files, which SQLite itself changes."""
+
+    def setUp(self) -> None:
+        super().setUp()
+        self.file = self.kept / "table.sqlite"
+
+    def begin(self, is_there: bool) -> None:
+        """A table of one row, and one of another program."""
+        for file in self.kept.iterdir():
+            file.unlink()
+        if is_there:
+            with closing(sqlite3.connect(self.file)) as table, table:
+                table.execute("CREATE TABLE positions AS SELECT 7 AS rank")
+                table.execute("CREATE TABLE mine AS SELECT 5 AS number")
+
+    def check(self, is_there: bool, count: int, told: object = None) -> None:
+        """The file is whole, and nothing is beside it once another program has changed it."""
+        found = {}
+        if self.file.exists():
+            with closing(sqlite3.connect(self.file)) as table, table:
+                self.assertEqual([*table.execute("PRAGMA integrity_check")], [("ok",)], told)
+                for [name] in [*table.execute("SELECT tbl_name FROM sqlite_master")]:
+                    [found[name]] = table.execute(f"SELECT count(*) FROM {name}").fetchone()
+                table.execute("PRAGMA user_version = 3")
+        wanted = {"mine": int(is_there), "positions": count}
+        self.assertEqual(found, {name: rows for name, rows in wanted.items() if rows}, told)
+        self.assertLessEqual(set(self.names()), {self.file.name}, told)
+
+    def test_each_write(self) -> None:
+        """The system kills it at a write that is too large, or lets that fail."""
+        for is_there in (True, False):
+            for action, ended in ((signal.SIG_DFL, -signal.SIGXFSZ), (signal.SIG_IGN, 1)):
+                statuses = []
+                for most in [*range(500, 15000, 700), 10**6]:
+
+                    def before() -> None:
+                        signal.signal(signal.SIGXFSZ, action)
+                        resource.setrlimit(resource.RLIMIT_CORE, (0, 0))
+                        resource.setrlimit(resource.RLIMIT_FSIZE, (most, most))
+
+                    self.begin(is_there)
+                    status = self.child([*TABLE, str(self.file)], before)
+                    told = (is_there, most, status, self.errors.read_text())
+                    if status == 1:
+                        self.assertEqual(self.names(), [self.file.name] * is_there, told)
+                        self.assertRegex(told[-1], "^bearoff: [a-zIO/ ]+: '.*'\n$")
+                    self.check(is_there, is_there if status else 64, told)
+                    statuses.append(status)
+                self.assertEqual(set(statuses), {0, ended})
+                self.assertGreater(statuses.count(ended), 10)
+
+    def test_each_way_between_two_rows(self) -> None:
+        def stop() -> None:
             def rows(_database: Database) -> Any:
                 yield (0,) * 13
-                os.kill(os.getpid(), signal.SIGTERM)
+                WAYS[way]()
                 yield (1,) * 13
 
             mock.patch("bearoff.tables._rows", rows).start()
 
-        status = self.child([*WRITERS["sqlite"], str(target)], before)
-        self.assertEqual((status, self.names()), (-signal.SIGTERM, ["table.sqlite"]))
-        self.assertEqual(target.read_bytes(), OLD)
+        for way in WAYS:
+            for is_there in (True, False):
+                self.begin(is_there)
+                status = self.child([*TABLE, str(self.file)], stop)
+                self.assertEqual(status, -SIGNALS[way] if way in SIGNALS else 1)
+                if way != "killed":
+                    self.assertEqual(self.names(), [self.file.name] * is_there)
+                self.check(is_there, int(is_there), way)
+
+    def test_another_program(self) -> None:
+        """One that changes the file is waited for, and one that has it open goes on."""
+        (self.kept / "link.sqlite").symlink_to(self.folder / "there.sqlite")
+        self.file = self.folder / "there.sqlite"
+        for mode in ("WAL", "DELETE"):
+            with closing(sqlite3.connect(self.file, isolation_level=None)) as other:
+                other.execute(f"PRAGMA journal_mode={mode}")
+                other.execute("BEGIN IMMEDIATE")
+                with mock.patch("bearoff.tables._PATIENCE", 0):
+                    with self.assertRaisesRegex(OSError, "database is locked; close"):
+                        export(database(8), self.kept / "link.sqlite")
+                other.execute("COMMIT")
+                export(database(8), self.kept / "link.sqlite")
+                count = other.execute("SELECT count(*) FROM positions").fetchone()
+                self.assertEqual(count, (64,))
+        self.assertEqual(self.names(), ["link.sqlite"])
+
+    def test_a_race(self) -> None:
+        """Another program opens, changes and closes the file all the time."""
+        for mode in ("WAL", "DELETE"):
+            self.begin(True)
+            rows = 0
+            with self.meanwhile(self.change, mode):
+                for _ in range(2000):
+                    export(database(8), self.file)
+                    with closing(sqlite3.connect(self.file)) as table:
+                        self.assertEqual([*table.execute("PRAGMA integrity_check")], [("ok",)])
+                        [rows] = table.execute("SELECT count(*) FROM mine").fetchone()
+                    if rows > 50:
+                        break
+            self.assertGreater(rows, 1)
+
+    def change(self, mode: str) -> None:
+        with closing(sqlite3.connect(self.file)) as table, table:
+            table.execute(f"PRAGMA journal_mode={mode}")
+            table.execute("INSERT INTO mine SELECT 6")
 
 
 class Refused(Folder):
@@ -256,53 +347,28 @@ class Refused(Folder):
                 os.link(file, self.kept / f"second.{ending}")
                 (self.kept / f"link.{ending}").symlink_to(f"../kept/{file.name}")
                 stood = self.names()
-                for name in ("race", "second", "link", "../work/../kept/race"):
+                for name in ("race", "second", "link", "../kept/race"):
                     for own in (words, (*words[:-1], str(file)))[: 2 if content is right else 1]:
                         self.refuse(
-                            [*own, f"{self.kept}/{name}.{ending}"], 2, "a database stands there"
+                            [*own, f"{self.kept}/{name}.{ending}"], 2, "this is a bearoff database"
                         )
                         self.assertEqual((file.read_bytes(), self.names()), (content, stood))
                 for path in self.kept.iterdir():
                     path.unlink()
 
-    def test_an_ending_of_databases(self) -> None:
-        self.refuse([*WRITERS["csv"], str(self.kept / "race.db")], 2, "ends in none of")
-        self.assertEqual(self.names(), [])
-
-    def test_changes_beside_an_sqlite_file(self) -> None:
-        for ending in ("sqlite", "sqlite3"):
-            file = self.kept / f"table.{ending}"
-            export(database(8), file)
-            (self.kept / f"link.{ending}").symlink_to(file.name)
-            with closing(sqlite3.connect(file)) as table:
-                table.execute("PRAGMA journal_mode=WAL")
-                table.execute("UPDATE positions SET mean = -1")
-                table.commit()
-                content = file.read_bytes()
-                for name in (file, self.kept / f"link.{ending}"):
-                    self.refuse([*WRITERS[ending], str(name)], 1, f"table.{ending}-wal stands")
-                self.assertEqual(file.read_bytes(), content)
-                [[least]] = table.execute("SELECT min(mean) FROM positions").fetchall()
-                self.assertEqual(least, -1)
-            export(database(8), file)
-            Path(f"{file}-journal").write_bytes(b"")
-            self.refuse([*WRITERS[ending], str(file)], 1, f"table.{ending}-journal stands")
-            # neither says anything of a file of another kind
-            for other in ("csv", "json"):
-                Path(self.kept, f"table.{other}-wal").write_bytes(b"")
-                export(database(8), self.kept / f"table.{other}")
-
-    def test_a_full_disk(self) -> None:
-        for ending, words in WRITERS.items():
-            file = self.put(f"table.{ending}")
-
-            def before() -> None:
-                mock.patch.object(gnubg, "to_file", lambda _: bytes(5000)).start()
-                resource.setrlimit(resource.RLIMIT_FSIZE, (2000, 2000))
-
-            self.refuse([*words, str(file)], 1, "(too large|full|I/O)", before=before)
-            self.assertEqual((file.read_bytes(), self.names()), (OLD, [file.name]))
-            file.unlink()
+    def test_what_sqlite_can_not_change(self) -> None:
+        os.mkfifo(self.kept / "pipe.sqlite")
+        (self.kept / "link.sqlite").symlink_to("/dev/stdout")
+        file = self.put("table.sqlite", OLD * 100)
+        stood = self.names()
+        for name, why in (
+            ("pipe", "not a plain file"),
+            ("link", "not a plain file"),
+            ("table", "file is not a database; remove it"),
+            ("no/table", "unable to open database file; its folder"),
+        ):
+            self.refuse([*TABLE, f"{self.kept}/{name}.sqlite"], 1, why)
+            self.assertEqual((file.read_bytes(), self.names()), (OLD * 100, stood))
 
     def test_no_thread(self) -> None:
         def before() -> None:
@@ -340,43 +406,42 @@ class Refused(Folder):
             export(database(8), "a\0.csv")
 
     def test_a_file_of_somebody_else(self) -> None:
-        """Whoever may not write a file doesn't replace it, nor who can't give it its owner."""
+        """Who may not write a file doesn't replace it, although the folder would allow that."""
         if os.getuid() != 0:
             self.skipTest("it needs the rights of root")
         os.chmod(self.kept, 0o777)
-        os.chmod(self.work, 0o777)
         shutil.copy(EIGHT, self.folder / "eight")
         self.errors.touch()
         os.chmod(self.errors, 0o666)
 
         def nobody() -> None:
             os.setgroups([])
-            os.setgid(65534)
-            os.setuid(65534)
+            os.setgid(NOBODY)
+            os.setuid(NOBODY)
 
         words = ["export", "--database", str(self.folder / "eight")]
-        rows = [(OWNER, mode) for mode in (0o644, 0o666, 0o444, 0o602, 0o600)]
-        for owner, mode in [*rows, (65534, 0o444)]:
-            file = self.put("table.csv")
-            os.chown(file, owner, owner)
-            os.chmod(file, mode)
-            self.refuse([*words, str(file)], 1, "not permitted|denied", before=nobody)
-            now = file.stat()
-            self.assertEqual((file.read_bytes(), self.names()), (OLD, [file.name]))
-            self.assertEqual((now.st_uid, stat.S_IMODE(now.st_mode)), (owner, mode))
+        for owner, mode in ((0, 0o644), (0, 0o602), (0, 0o600), (NOBODY, 0o444)):
+            for ending in ("csv", "sqlite"):
+                file = self.put(f"table.{ending}", OLD, mode)
+                os.chown(file, owner, owner)
+                self.refuse([*words, str(file)], 1, "denied", before=nobody)
+                self.assertEqual((file.read_bytes(), self.names()), (OLD, [file.name]))
+                file.unlink()
 
 
 class Written(Folder):
-    def test_the_mode_of_a_new_file(self) -> None:
+    def test_permissions(self) -> None:
+        """Those of an old file, without its set-id bits, or those that the process gives."""
+        self.addCleanup(os.umask, os.umask(0))
         for mask in (0o022, 0o077, 0o002):
-            before = os.umask(mask)
-            try:
-                export(database(8), self.kept / "table.csv")
-            finally:
-                os.umask(before)
-            mode = (self.kept / "table.csv").stat().st_mode & 0o777
-            self.assertEqual(mode, 0o666 & ~mask)
-            (self.kept / "table.csv").unlink()
+            os.umask(mask)
+            export(database(8), self.kept / f"{mask}.csv")
+            mode = (self.kept / f"{mask}.csv").stat().st_mode
+            self.assertEqual(stat.S_IMODE(mode), 0o666 & ~mask)
+        for mode in (0o604, 0o640, 0o777, 0o6755):
+            file = self.put("table.csv", OLD, mode)
+            export(database(8), file)
+            self.assertEqual(stat.S_IMODE(file.stat().st_mode), mode & 0o777)
 
     def test_a_second_name_keeps_the_old_file(self) -> None:
         file = self.put("table.csv")
@@ -384,32 +449,44 @@ class Written(Folder):
         export(database(8), file)
         self.assertEqual((self.kept / "second").read_bytes(), OLD)
 
-    def test_a_list_of_who_may_read(self) -> None:
-        """An access control list stays, and one that the folder would give isn't taken."""
+    def test_an_open_file_is_written_into(self) -> None:
+        """As it is of the shell, which has opened it, and the command's own line comes behind."""
+        link, out = self.kept / "link.csv", self.kept / "out"
+        export(database(8), self.kept / "table.csv")
+        wanted = b"before\n" + (self.kept / "table.csv").read_bytes() + b"64 positions\n"
+        words = [sys.executable, "-m", "bearoff", *TABLE, str(link)]
+        for name in ("/dev/stdout", "/dev/fd/1", "/proc/self/fd/1", "/proc/thread-self/fd/1"):
+            link.symlink_to(name)
+            with open(out, "wb", 0) as stream:
+                stream.write(b"before\n")
+                subprocess.run(words, stdout=stream, check=True)
+            self.assertEqual(out.read_bytes(), wanted)
+            piped = subprocess.run(words, stdout=subprocess.PIPE, check=True).stdout
+            self.assertEqual(b"before\n" + piped, wanted)
+            link.unlink()
 
-        def listed(*entries: Tuple[int, int, int]) -> bytes:
-            return pack("<I", 2) + b"".join(pack("<HHI", *entry) for entry in entries)
+    def test_a_race(self) -> None:
+        """Its name is swapped by another user, between a link to a file of root and one of his."""
+        if os.getuid() != 0:
+            self.skipTest("it needs the rights of root")
+        secret = self.put("secret", OLD, 0o600)
+        home = self.folder / "home"
+        home.mkdir()
+        os.chown(home, NOBODY, NOBODY)
+        with self.meanwhile(self.swap, secret, home):
+            for _ in range(500):
+                with contextlib.suppress(OSError):
+                    _writing.write_whole(str(home / "table.csv"), b"new")
+                found = secret.stat()
+                self.assertEqual((found.st_uid, stat.S_IMODE(found.st_mode)), (0, 0o600))
 
-        none = 2**32 - 1
-        # of the owner, of a user, of the group, the mask, of all others
-        own = listed((1, 6, none), (2, 4, OWNER), (4, 0, none), (16, 4, none), (32, 0, none))
-        name = "system.posix_acl_"
-        file, plain = self.kept / "table.csv", self.kept / "plain.csv"
-        for path in (file, plain):
-            path.write_bytes(OLD)
-        try:
-            os.setxattr(file, name + "access", own)
-        except OSError:
-            self.skipTest("no access control lists here")
-        os.chmod(plain, 0o640)
-        all_of = listed((1, 7, none), (2, 7, OWNER), (4, 7, none), (16, 7, none), (32, 5, none))
-        os.setxattr(self.kept, name + "default", all_of)
-        before = [path.stat().st_mode for path in (file, plain)]
-        for path in (file, plain):
-            export(database(8), path)
-        self.assertEqual([path.stat().st_mode for path in (file, plain)], before)
-        self.assertEqual(os.getxattr(file, name + "access"), own)
-        self.assertNotIn(name + "access", os.listxattr(plain))
+    def swap(self, secret: Path, home: Path) -> None:
+        os.chdir(home)
+        os.seteuid(NOBODY)
+        os.symlink(secret, "link")
+        os.replace("link", "table.csv")
+        Path("plain").touch(0o644)
+        os.replace("plain", "table.csv")
 
     def test_a_pipe_is_written_into(self) -> None:
         pipe = self.kept / "pipe.csv"
