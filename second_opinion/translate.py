@@ -33,6 +33,17 @@ class Unread(Exception):
     pass
 
 
+def rest_of_bracket(text):
+    """A text up to where the bracket that it stands in is closed, without what is in brackets."""
+    found, depth = "", 0
+    for sign in text:
+        depth += (sign in "([{") - (sign in ")]}")
+        if depth < 0:
+            break
+        found += sign if not depth else ""
+    return found
+
+
 def term(text):
     """A term or a type."""
     text = re.sub(r"\s+", " ", text).replace("Unit {0}", "True").strip()
@@ -41,8 +52,9 @@ def term(text):
     text = re.sub(r"(?<=[\w)])\.(\w+)", lambda found: f".({fields[found[1]]})", text)
     text = re.sub(r"λ ((?:\w+ )*\w+)\. ", r"fun \1 => ", text)
     # "exists" reaches to the end of its bracket, so no arrow and no ⊎ may follow there
-    if re.search(r"\(\w+ : \w+\) × (?:[^()]|\((?:[^()]|\([^()]*\))*\))*[→⊎]", text):
-        raise Unread(text)
+    for found in re.finditer(r"\(\w+ : \w+\) × ", text):
+        if re.search("[→⊎]", rest_of_bracket(text[found.end() :])):
+            raise Unread(text)
     text = re.sub(r"\((\w+) : (\w+)\) × ", r"exists \1 : \2, ", text)
     text = re.sub(r"((?: ?\(\w+ : \w+\))+) → ", r" forall \1, ", text)
     if COQ.search(text):
