@@ -15,9 +15,6 @@ help install uninstall release: export override DESTDIR := $(value DESTDIR)
 help install uninstall release: export override DIR := $(value DIR)
 VERSION := $(shell cat VERSION)
 
-# the sum of the sources, as old as their last change here: times of sources themselves tell nothing,
-# since a file may come from elsewhere with its own; each make writes it under a name of its own
-SOURCES := out/sources
 MODULES := $(OUT)/modules/wide.wasm $(OUT)/modules/narrow.wasm
 PAGE := $(OUT)/bearoff.html
 PACKAGE := $(OUT)/js/bearoff-$(VERSION).tgz
@@ -28,7 +25,7 @@ TRIALS := board_trials failing_calls number_trials
 
 WORK_PAGE := $(OUT)/work.html
 
-# compiled as it is written, without a proof, for tests alone: what is proved never stands here
+# compiled as it is written, without a proof: what is proved never stands here
 UNPROVED := out/unproved
 
 # the scripts in Python; the mutants of the page are rows of one line each
@@ -43,9 +40,9 @@ SCRIPTS := git ls-files '*.py' && \
 help:
 	@echo 'make needs              installs what the tests and the packaging need from Debian'
 	@echo 'make prove              proves and builds the program'
-	@echo 'make check              all that has to pass, from nothing: Debian, proofs, builds, tests'
+	@echo 'make check              all that has to pass: Debian, proofs, builds, tests'
 	@echo 'make test               the tests in Python and under node, and what they run'
-	@echo 'make quick              all tests that need no prover, in minutes; NOTHING IS PROVED'
+	@echo 'make quick              most tests that need no prover, in minutes; NOTHING IS PROVED'
 	@echo 'make page               $(PAGE)'
 	@echo 'make work-page          $(WORK_PAGE), the same with source maps, for work on it'
 	@echo 'make js                 $(PACKAGE)'
@@ -55,14 +52,10 @@ help:
 	@echo 'make format             lays out the Python and the C of tests, by black and clang-format'
 	@printf 'make install            into PREFIX (%s), below DESTDIR where that is set\n' "$$PREFIX"
 	@echo 'make uninstall          takes that away'
-	@echo 'make release DIR=DIR    the files of a release, in a new folder'
+	@echo 'make release DIR=DIR    the files of a release, in a new folder, proved anew'
 
 needs:
 	tests/needs.py
-
-$(SOURCES): always
-	@mkdir -p $(@D) && new=$@.$$$$ && tools/sources >$$new && \
-		if cmp -s $$new $@; then rm $$new; else mv $$new $@; fi
 
 # does nothing where that is done already
 prove:
@@ -71,21 +64,23 @@ prove:
 trials:
 	tools/prove $(TRIALS) $(if $(JOBS),--jobs $(JOBS))
 
-library: $(ARCHIVE)
-$(ARCHIVE): $(SOURCES)
-	packaging/archive $@
+# what stands is asked of tools/made, and by no time of a file
+library:
+	packaging/archive "$(ARCHIVE)"
 
 page: $(PAGE)
 work-page: $(WORK_PAGE)
-$(PAGE) $(WORK_PAGE): $(MODULES) $(wildcard web/* web/*/*) $(wildcard js/*.js) VERSION packaging/page.py
+$(PAGE) $(WORK_PAGE): $(MODULES) $(wildcard web/* web/*/*) $(wildcard js/*.js) VERSION packaging/page.py \
+		packaging/third-party-licences.txt
 	/usr/bin/python3 -I packaging/page.py web $(OUT)/modules VERSION $@ \
 		$(if $(filter %/work.html,$@),--maps)
 
-$(MODULES) &: $(SOURCES) packaging/modules
+$(MODULES) &: always
 	packaging/modules $(OUT)/modules
 
 js: $(PACKAGE)
-$(PACKAGE): $(MODULES) $(wildcard js/*.js js/*.d.ts js/*.json) js/README.md VERSION packaging/js
+$(PACKAGE): $(MODULES) $(wildcard js/*.js js/*.d.ts js/*.json) js/README.md VERSION packaging/js \
+		packaging/third-party-licences.txt
 	packaging/js $(OUT)/modules $(OUT)/js
 
 reference:
@@ -113,13 +108,15 @@ uninstall:
 	packaging/uninstall "$$PREFIX"
 
 release:
-	packaging/release "$$DIR"
+	packaging/release --anew "$$DIR"
 
 # what the tests under node compare with
 tested: $(TESTED)
-$(TESTED): $(SOURCES) tests/page/prepare tests/callers/questions.py tests/callers/ask_gnubg.py | prove
-	tests/page/prepare crates/bearoff_cli/out/bearoff_cli $(@D)
+$(TESTED): crates/bearoff_cli/out/bearoff_cli tests/page/prepare tests/callers/questions.py tests/callers/ask_gnubg.py
+	tests/page/prepare $< $(@D)
 	@touch $@
+
+crates/bearoff_cli/out/bearoff_cli: prove ;
 
 # each part goes on where it was stopped
 check:

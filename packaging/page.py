@@ -15,7 +15,7 @@ import subprocess
 import sys
 from pathlib import Path
 
-MOST_BYTES = 430_000
+MOST_BYTES = 460_000
 # what tools/unproved puts into a module, and what a page of such modules says in place of its words
 MARK = b"BEAROFF_UNPROVED"
 UNPROVED = (
@@ -26,23 +26,19 @@ UNPROVED = (
 LIBRARIES = "/usr/share/nodejs"
 # what the oldest browsers that have all else can read
 TARGET = "es2020"
-# the parts of the style, in web/style: of two rules that are as specific the one in a later part
+# the parts of the style: of two rules that are as specific the one in a later part
 # holds. There are no cascade layers, since a browser that doesn't know them would show no style
 STYLES = (
-    "colours",
-    "base",
-    "board",
-    "numbers",
-    "rolls",
-    "kept",
-    "coach",
-    "worth",
-    "student",
-    "playing",
-    "training",
-    "compact",
-    "foot",
-    "print",
+    "style/base",
+    "board/style",
+    "editor/style",
+    "question/style",
+    "review/style",
+    "lesson/style",
+    "teacher/style",
+    "home/style",
+    "style/training",
+    "style/print",
 )
 # modules are strict, and a script says so
 STRICT = '"use strict";'
@@ -119,7 +115,7 @@ def main(web, modules, version, page, maps=None):
     # what the script is given stands behind it, so that its map holds
     code = script(web, PAGE, STRICT + "(PARTS=>{", maps)
     code = f"{code}}})({parts});"
-    style = "".join((web / "style" / f"{name}.css").read_text() for name in STYLES)
+    style = "".join((web / f"{name}.css").read_text() for name in STYLES)
     style = run(["esbuild", "--minify", "--loader=css"], input=style).strip()
     text = (web / "index.html").read_text()
     is_proved = not any(MARK in (modules / f"{name}.wasm").read_bytes() for name in forms)
@@ -127,7 +123,9 @@ def main(web, modules, version, page, maps=None):
         if text.count(words) != 1:
             sys.exit(f"page: '{words}' stands not once in index.html")
         text = text.replace(words, others)
+    licences = Path(__file__).with_name("third-party-licences.txt").read_text()
     for mark, part in (
+        ("</html>", f"<!--\n{licences}-->\n</html>"),
         ("/*POLICY*/", policy(code, style)),
         ("/*STYLE*/", style),
         ("<!--VERSION-->", Path(version).read_text().strip()),
