@@ -99,6 +99,7 @@ def pytest_collection_modifyitems(config, items):
     marks = {
         "by_hand": not config.getoption("--by-hand"),
         "proved": config.getoption("--unproved"),
+        "gate": config.getoption("--unproved") and not config.getoption("--by-hand"),
     }
     for mark in [mark for mark, is_left_out in marks.items() if is_left_out]:
         left_out = [item for item in items if item.get_closest_marker(mark)]
@@ -139,12 +140,6 @@ def given(path):
     return path
 
 
-def is_fresh(crate):
-    """Whether a program was made of the sources as they are."""
-    fresh, sources = ROOT / "crates" / crate / "out/fresh", succeed(ROOT / "tools/sources")
-    return fresh.exists() and fresh.read_bytes().split()[:1] == sources.split()
-
-
 def program_of(request, crate, option):
     """The program of a crate: the one that an option names, or the one that was proved and built
     of the sources as they are."""
@@ -155,7 +150,7 @@ def program_of(request, crate, option):
     made = ROOT / "crates" / crate / "out" / crate
     if not os.access(made, os.X_OK):
         pytest.fail(f"{made} is not built: run make prove trials, or make check", pytrace=False)
-    if not is_fresh(crate):
+    if run(ROOT / "tools/made", made).status != 0:
         pytest.fail(
             f"a source has changed since {made} was proved: run make prove trials", pytrace=False
         )

@@ -3,9 +3,11 @@
 import collections
 import contextlib
 import hashlib
+import json
 import os
 import re
 import shlex
+import shutil
 import subprocess
 import termios
 import threading
@@ -178,6 +180,18 @@ def succeed(*words, **how):
     return done.output
 
 
+def copy_all(room):
+    """Copies what is tracked into a repository of its own, and gives the names."""
+    names = succeed("git", "ls-files", "-z", cwd=ROOT).decode("utf-8").split("\0")[:-1]
+    names = [name for name in names if (ROOT / name).exists()]
+    for name in names:
+        (room / name).parent.mkdir(parents=True, exist_ok=True)
+        shutil.copy(ROOT / name, room / name)
+    succeed("git", "init", "--quiet")
+    succeed("git", "add", "--all")
+    return names
+
+
 def expect_same(one, other, what):
     """That two files, or bytes, are the same."""
     __tracebackhide__ = True
@@ -221,6 +235,34 @@ def coded_rows(name, count):
     rows = (HERE / name).read_text(encoding="ascii").splitlines()
     parts = [row.split(" ", count) for row in rows if not row.startswith("#")]
     return [(*words[:count], unquote("".join(words[count:]))) for words in parts]
+
+
+def race_rows():
+    """The texts of notation_texts.json, and what the library tells of each: its status, and behind
+    it the place or, where it is 0, both players' counts, whether the other's are told, the dice
+    and who is on roll. It refuses those that are spelled in a way that the packages alone take."""
+    texts = json.loads((HERE / "callers/notation_texts.json").read_text(encoding="utf-8"))
+    found = []
+    for text, *told in (*texts["read"], *texts["refused"]):
+        if text in texts["spelled"]:
+            told = ("malformed", "")
+        if len(told) == 4:
+            mine, theirs, dice, on_roll = told
+            seat = [None, "bottom", "top"].index(on_roll)
+            words = (0, *mine, *(theirs or [0] * 6), int(bool(theirs)), *(dice or [0, 0]), seat)
+        else:
+            reason, line = told
+            point = re.search(r"\bpoint (\d+)", line)
+            shared = line.startswith("both players")
+            status = 32 if shared else STATUSES[reason]
+            whose = 0 if reason == "malformed" else 1 + line.startswith("the other player")
+            words = (status, int(point[1]) if point else whose)
+        found.append((text, " ".join(map(str, words))))
+    return found
+
+
+REASONS = ("malformed", "too-many", "bar", "outside", "contact", "other-side")
+STATUSES = dict(zip(REASONS, (11, 3, 33, 34, 35, 36)))
 
 
 def code_blocks(page, kind):

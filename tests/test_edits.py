@@ -1,4 +1,4 @@
-"""The wrong bodies of crates/NAME/wrong_bodies, a file each, which tools/try_edits tries many in one check: what
+"""The mutants of crates/NAME/wrong_bodies, a file each, which tools/try_edits tries many in one check: what
 it makes of what the prover says, which edits it tries together, and, over the prover itself, that
 a body which is right is told as PROVED and one that does not compile as a BAD EDIT."""
 
@@ -13,7 +13,7 @@ import pytest
 
 from running import ROOT, expect_that, run, succeed
 
-# what the prover said of a check of a few wrong bodies
+# what the prover said of a check of a few mutants
 SAID = """\
 ./proofs/text/parse/Answers.antt:80:40: error: `none`: module `Goals` has no `none` that can be named
 ./proofs/text/write/Answers.antt:47:85: error: `count_text`: `rw`: no part of the goal
@@ -99,7 +99,7 @@ def edit_of(tool, function, owner=None, module="text", name="x"):
         ),
         ("read", None, "text", ("refused", "loop-kept of low::text::read")),
         # its own goal fails, whatever it waits for
-        ("write", None, "text", ("refused", "count_text of low::text::write")),
+        ("write", None, "text", ("refused", "count_text of low::text::write, by its answer")),
         # tried again without the edit of what it calls
         ("is_empty", ("Board", ""), "board", (None, False)),
         # tried alone: refused in no goal, and for a name alone
@@ -125,10 +125,21 @@ def test_verdicts(tool, function, owner, module, verdict):
             "fn low::x: not proved\nlogic=not-proved\n",
             "NAME ALONE",
         ),
+        (
+            "./proofs/x/Answers.antt:8:4: error: `beside`: `rw`: no part of the goal\n"
+            "fn low::x: not proved\nlogic=not-proved\n",
+            "refused",
+        ),
+        (
+            "./proofs/x/Answers.antt:8:4: error: `returns`: antt ran out of the steps\n"
+            "fn low::x: could not tell\nrattle: no verdict\n",
+            "refused",
+        ),
         ("fn low::x: could not tell\nrattle: no verdict: it was killed\n", "NOT TRIED"),
     ],
 )
-def test_verdicts_alone(tool, said, verdict):
+def test_verdicts_alone(tool, said, verdict, monkeypatch):
+    monkeypatch.setattr(tool, "lemmas_of", lambda crate, function: {"beside"})
     assert tool.verdict_alone(said, 1, "low")[0] == verdict
 
 
@@ -161,6 +172,21 @@ def test_places(tool):
     assert tool.name_of(place("self % 10")) == "text::board::U128Digits::last"
 
 
+def test_further_functions(tool, room):
+    """An edit becomes a further function, and one of a trait's method stays where it is."""
+    (room / "src").mkdir()
+    (room / "src/x.rt").write_text(SOURCE)
+    text = "file: src/x.rt\nold: %s\nnew: wrong"
+    edit = tool.further(tool.read_edit("x", text % "let pips = self.pips;", room), 3, room)
+    assert (edit.place.function, edit.of.function) == ("pips_variant_3", "pips")
+    method = "    fn pips%s(&self) -> u8 {\n        %s\n        pips\n    }\n"
+    was = method % ("", "let pips = self.pips;")
+    wanted = SOURCE.replace(was, was + "\n" + method % ("_variant_3", "wrong"))
+    assert tool.changed(SOURCE, edit.spans) == wanted
+    edit = tool.read_edit("x", text % "Fault::Read", room)
+    assert tool.further(edit, 3, room) == edit
+
+
 def test_names(tool):
     """The proof of each function stands where its name says, also that of a type of another
     module."""
@@ -188,6 +214,8 @@ def test_prover(room):
             "disk.remove(names.new.as_str())",
             "disk.facts_at(names.new.as_str())",
         ),
+        # right, in a function whose proof is by hand
+        "is_right_too": ("!disk.can_be_replaced(", "!(disk).can_be_replaced("),
     }
     text = "\n".join(
         f"name: {name}\nfile: src/draft.rt\nold: {old}\nnew: {new}\n"
@@ -201,6 +229,7 @@ def test_prover(room):
     verdicts = {name: kind for kind, name in rows}
     wanted = {
         "is_right": "PROVED",
+        "is_right_too": "PROVED",
         "is_wrong": "refused",
         "is_no_program": "BAD EDIT",
         "is_not_there": "BAD EDIT",

@@ -4,12 +4,9 @@ place."""
 
 import contextlib
 import os
-import re
 import shutil
 import stat
-import subprocess
 import tempfile
-import time
 from pathlib import Path
 
 import pytest

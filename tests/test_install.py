@@ -30,7 +30,7 @@ def listed():
     return sorted(succeed(INSTALL, "--list").decode().splitlines())
 
 
-LISTED = re.findall(r"(?m)^(?:\d+|link) (\S+) ", (ROOT / "packaging/put_down").read_text())
+LISTED = re.findall(r"(?m)^(?:\d+|link) (\S+) ", (ROOT / "packaging/place").read_text())
 LISTED = sorted(name.replace("$lib", "lib") for name in [*LISTED, "share/bearoff/installed"])
 
 
@@ -71,8 +71,7 @@ class TestAPrefixWithASpace:
     @pytest.fixture
     def prefix(self, room):
         prefix = room / "a prefix"
-        done = run("sh", "-c", 'umask 077 && "$0" "$1"', INSTALL, prefix)
-        expect_that(done.status == 0, done, "an installation")
+        succeed("sh", "-c", 'umask 077 && "$0" "$1"', INSTALL, prefix)
         return prefix
 
     def test_files(self, prefix, listed):
@@ -153,7 +152,7 @@ class TestMake:
         prefix = f"{room}/{self.ODD}"
         done = self.make(target, f"PREFIX={prefix}")
         said = {
-            "install": "put_down: pkg-config can tell a compiler no folder whose name has",
+            "install": "place: pkg-config can tell a compiler no folder whose name has",
             "uninstall": f"uninstall: nothing was installed here: there is no {prefix}/share/",
             "help": f"make install            into PREFIX ({prefix}), below DESTDIR",
         }[target]
@@ -186,11 +185,18 @@ class TestArchive:
     def archive(self, room):
         for folder in ("packaging", "tools", "tmp", "to"):
             (room / folder).mkdir()
-        shutil.copy(ROOT / "packaging/archive", room / "packaging/archive")
+        for name in ("packaging/archive", "tools/made", "tools/sources"):
+            shutil.copy(ROOT / name, room / name)
         (room / "tools/over_proved").write_text(OVER_PROVED)
         (room / "tools/over_proved").chmod(0o755)
 
+        (room / "crates.txt").touch()
+        (room / "kit/bin").mkdir(parents=True)
+        (room / "kit/KIT-ID").write_text("another toolchain\n")
+        (room / "kit/bin/rt").touch(0o755)
+
         def made(**more):
+            more = {name: text for name, text in more.items() if text}
             environment = {**os.environ, "TMPDIR": f"{room}/tmp", "LOOK": "tmp to", **more}
             return run(room / "packaging/archive", "to/lib.a", env=environment)
 
@@ -201,7 +207,25 @@ class TestArchive:
         assert (room / "to/lib.a").read_text() == "made\n"
         kinds = [line[:5] for line in (room / "looked").read_text().splitlines()]
         assert kinds == ["d 700", "d 700"]
-        assert os.listdir("to") == ["lib.a"] and os.listdir("tmp") == []
+        assert sorted(os.listdir("to")) == ["lib.a", "lib.a.made"] and os.listdir("tmp") == []
+
+    @pytest.mark.parametrize("change", ["nothing", "library", "note", "source", "toolchain"])
+    def test_once_more(self, room, archive, change):
+        """It is made again unless it is the one that was made of these sources by this toolchain,
+        however old or new it is."""
+        expect(archive(), 0)
+        (room / "looked").unlink()
+        if change == "library":
+            (room / "to/lib.a").write_text("another\n")
+        elif change == "note":
+            (room / "to/lib.a.made").unlink()
+        elif change == "source":
+            (room / "crates.txt").write_text("low:\n")
+        for path in (room / "crates.txt", room / "to/lib.a"):
+            path.touch()
+        expect(archive(PATH=f"{room}/kit/bin:{os.environ['PATH']}" * (change == "toolchain")), 0)
+        assert (room / "looked").exists() == (change != "nothing")
+        assert (room / "to/lib.a").read_text() == "made\n"
 
     def test_not_made(self, room, archive):
         (room / "to/lib.a").write_text("older\n")
@@ -237,7 +261,7 @@ def test_usage(script):
 
 
 class TestTakenPlaces:
-    """A folder in the place of each file, and a file in that of a folder: nothing is put down."""
+    """A folder in the place of each file, and a file in that of a folder: nothing is installed."""
 
     @pytest.mark.parametrize("file", LISTED)
     def test_a_folder(self, room, file):

@@ -14,7 +14,7 @@ from pathlib import Path
 
 import pytest
 
-from running import ROOT, expect_that, run, succeed, wait_until
+from running import ROOT, copy_all, expect_that, run, succeed, wait_until
 
 # what the launcher and tools/prove call beside the kit
 COMMANDS = (
@@ -22,8 +22,21 @@ COMMANDS = (
     " python3 sort xargs sha256sum cut setpriv"
 ).split()
 
+# its gate tells which crates it proves: one that FAILING names fails, and what it makes of the
+# others is an empty library, or a program that tells its words
 RT = """#!/bin/sh
-echo "$KIT/START-HERE.md"
+[ "$1" != --help ] || { echo "rt ci [--anew]" >&2; exit; }
+[ "$1" = ci ] || { echo "$KIT/START-HERE.md"; exit; }
+echo "ci${2+ $2}:$(sed 's/:.*//' crates.txt | tr '\\n' ' ' | sed 's/^/ /; s/ $//')" >>"$TOLD"
+for crate in crates/*; do
+    name=${crate#crates/}
+    mkdir -p "$crate/out/rlib/$name.rlib"
+    [ "$FAILING" != "$name" ] || { echo "error: no proof of $name"; echo "rt: $name NOT PROVED"; exit 1; }
+    if [ -f "$crate/src/main.rt" ]; then
+        printf '#!/bin/sh\\necho proved "$@"\\n' >"$crate/out/$name" && chmod +x "$crate/out/$name"
+    fi
+    echo "rt: $name proved"
+done
 """
 
 # compiles nothing: it tells how it was called, and makes a program that tells its input
@@ -34,23 +47,6 @@ mkdir -p "$(dirname "$0")/../out/unproved"
 printf '#!/bin/sh\\necho as written "$@"; cat; exit ${STATUS:-0}\\n' \
     >"$(dirname "$0")/../out/unproved/bearoff"
 chmod +x "$(dirname "$0")/../out/unproved/bearoff"
-"""
-
-RATTLE = """#!/bin/sh
-# tells when it begins and ends; a word of FAILING fails, and what it makes is empty
-while [ $# -gt 0 ]; do
-    case $1 in
-        --crate-name) name=$2 ;; -o) made=$2 ;; --jobs) jobs=$2 ;;
-        --extern) uses="$uses ${2%%=*}" ;;
-    esac
-    shift
-done
-echo "begin $name ($jobs):$uses" >>"$TOLD"
-sleep 0.5
-echo "end $name" >>"$TOLD"
-case " $FAILING " in *" $name "*) echo "error: no proof of $name"; exit 1 ;; esac
-mkdir -p out/incremental && echo "$name" >out/incremental/work
-case $made in *.rlib) mkdir -p "$made" && : >"$made/format" ;; *) : >"$made" ;; esac
 """
 
 # the stamp of a library: the texts of its sources
@@ -69,17 +65,11 @@ class Crate:
             return source.read()
 """
 
-RATTLE_LINK = """#!/bin/sh
-while [ "$1" != -o ]; do shift; done
-printf '#!/bin/sh\\necho proved "$@"\\n' >"$2" && chmod +x "$2"
-"""
-
-NOTE = (
-    "bearoff: nothing was proved here yet: this answer is by the program as it is written*"
-    "./bearoff --prove*"
-)
-CHANGED = "bearoff: a source has changed since the program was proved here: *"
+NOTE = "bearoff: this answer is by the program as it is written: nothing was proved here yet*;*--prove*"
+CHANGED = NOTE.replace("nothing was proved here yet", "a source or the toolchain has changed*")
+FIRST = "*, and it is compiled first (about a minute);*"
 COMPILED = ["unproved <--quiet> <program>"]
+COPIED = ["a copy", "elsewhere", "kit", "none"]
 
 
 class Copy:
@@ -93,8 +83,9 @@ class Copy:
             source.mkdir(parents=True)
             (source / ("main.rt" if crate == "bearoff_cli" else "lib.rt")).write_text("one\n")
         (self.root / "tools").mkdir()
+        shutil.copy(ROOT / "HANDLES", self.root)
         shutil.copy(ROOT / "bearoff", self.launcher)
-        for name in ("prove", "sources"):
+        for name in ("made", "prove", "sources"):
             shutil.copy(ROOT / "tools" / name, self.root / "tools")
         (self.root / "tools/unproved").write_text(AS_WRITTEN)
         (self.root / "tools/unproved").chmod(0o755)
@@ -104,13 +95,12 @@ class Copy:
             (work / folder).mkdir(parents=True)
         for command in COMMANDS:
             os.symlink(shutil.which(command), work / "none" / command)
-        scripts = {"rt": RT, "rattle": RATTLE, "rattle-link": RATTLE_LINK, "rtlib.py": RTLIB}
-        for name, text in scripts.items():
+        for name, text in {"rt": RT, "rtlib.py": RTLIB}.items():
             (work / "kit/bin" / name).write_text(text)
             (work / "kit/bin" / name).chmod(0o755)
         self.here = work / "elsewhere"
         self.program = self.root / "crates/bearoff_cli/out/bearoff_cli"
-        self.fresh = self.root / "crates/bearoff_cli/out/fresh"
+        self.note = Path(f"{self.program}.made")
         self.low = self.root / "crates/low/src/lib.rt"
 
     def run(self, *words, input="a line", status=0, failing="", has_kit=True, by=None):
@@ -120,8 +110,7 @@ class Copy:
     def environment(self, has_kit=True, **more):
         path = f"{self.work}/kit/bin:{os.environ['PATH']}" if has_kit else f"{self.work}/none"
         more |= {"PATH": path, "KIT": f"{self.work}/kit", "TOLD": str(self.told_file)}
-        more |= {"XDG_CACHE_HOME": f"{self.work}/cache", "TMPDIR": str(self.work)}
-        return {**os.environ, **more}
+        return {**os.environ, **more, "TMPDIR": str(self.work)}
 
     def told(self):
         """How the kit was called since this was asked last."""
@@ -155,17 +144,12 @@ class TestBeforeAProof:
         expect(done, 0, "as written\na line", NOTE)
         assert done.errors.count(b"\n") == 1, "more than one line on standard error"
         assert copy.told() == COMPILED
+        expect(done, 0, "as written\na line", FIRST)
+        assert b"compiled" not in copy.run().errors
 
-    def test_words(self, copy):
-        expect(
-            copy.run("check", "a file", "--", "-x"),
-            0,
-            "as written check a file -- -x\na line",
-            NOTE,
-        )
-
-    def test_a_status(self, copy):
-        expect(copy.run("check", "x", status=3), 3, "as written check x\na line", NOTE)
+    def test_words_and_a_status(self, copy):
+        done = copy.run("check", "a file", "--", "-x", status=3)
+        expect(done, 3, "as written check a file -- -x\na line", NOTE)
 
     def test_what_can_not_be_compiled(self, copy):
         expect(copy.run(failing="it"), 1, "", f"{NOTE}\nunproved: it can't be compiled")
@@ -183,6 +167,13 @@ class TestBeforeAProof:
         expect(copy.run("--prove", *words.split()), 2, "", "usage: *")
         assert copy.told() == []
 
+    def test_version(self, copy):
+        """After the program's line another one says that it isn't proved, and by which kit."""
+        line = f"NOT PROVED, {copy.work}/kit/START-HERE.md"
+        expect(copy.run("--version"), 0, f"as written --version\na line\n{line}", NOTE)
+        expect(copy.run("--version", "x"), 0, "as written --version x\na line", NOTE)
+        expect(copy.run("--version", status=3), 3, "as written --version\na line", NOTE)
+
 
 class TestWithoutAKit:
     def test_no_program(self, copy):
@@ -192,6 +183,22 @@ class TestWithoutAKit:
     def test_prove(self, copy):
         expect(copy.run("--prove", has_kit=False), 1, "", "bearoff: *rt*missing")
 
+    def test_what_makes_something(self, room):
+        """A line says what is missing, and nothing is made."""
+        folders = [it for it in os.environ["PATH"].split(":") if not os.path.exists(f"{it}/rt")]
+        environment = {**os.environ, "PATH": ":".join(folders)}
+        for words in (
+            "packaging/modules made",
+            "packaging/archive made",
+            "packaging/library made",
+        ):
+            done = run(ROOT / words.split()[0], *words.split()[1:], env=environment)
+            expect(done, 1, "", "*: the Rattle toolchain's command rt, which*missing")
+        for words in ("over_proved bearoff_c build", "prove bearoff_c", "unproved modules"):
+            done = run(ROOT / "tools" / words.split()[0], *words.split()[1:], env=environment)
+            expect(done, 1, "", "*: the Rattle toolchain's command rt is missing")
+        assert not [it for it in room.rglob("*") if it.is_file()]
+
     def test_a_changed_source(self, copy):
         assert copy.prove().status == 0
         copy.low.write_text("two\n")
@@ -200,43 +207,94 @@ class TestWithoutAKit:
 
 class TestProve:
     def test_a_proof_that_fails(self, copy):
-        said = "*error: no proof of other*prove: other was not proved; what the prover said is in*"
-        done = copy.prove(failing="other")
-        expect(done, 1, "", said)
-        log = Path(re.search(r"what the prover said is in (.*)", done.errors.decode())[1])
+        said = "*error: no proof of other*prove: *not proved; what the prover said is in*"
+        expect(copy.prove(failing="other"), 1, "", said)
+        (log,) = copy.work.glob("bearoff-prove-*.log")
         assert log.stat().st_size > 0, "a proof that fails leaves no log"
-        shutil.rmtree(log.parent)
-        assert not [line for line in copy.told() if "bearoff_cli" in line]
-        assert not copy.fresh.exists(), "a proof that failed counts as one"
+        assert not copy.note.exists(), "a proof that failed counts as one"
+        assert not (copy.root / "crates/low/out").exists(), "what failed with others is taken"
 
-    def test_side_by_side(self, copy):
-        said = (
-            "bearoff: proving the program*prove: 3 crates, with up to 5 jobs*1 of 3 crates are"
-            " proved*3 of 3 crates are proved (bearoff_cli)*is proved and built*"
-        )
+    def test_what_is_proved(self, copy):
+        """The crate and those below it, and no others, in a copy that is gone after it."""
+        said = "bearoff: proving the program*prove: 1 of 3 crates are proved*3 of 3 crates are proved*"
         expect(copy.prove(), 0, "", said)
-        told = copy.told()
-        assert sorted(told[:2]) == ["begin low (2): std", "begin other (3): std"]
-        assert told[-2:] == ["begin bearoff_cli (4): std low other clap", "end bearoff_cli"]
+        assert copy.told() == ["ci: low other bearoff_cli"]
+        assert sorted(it.name for it in copy.work.iterdir()) == COPIED
+        assert (copy.root / "crates/low/out/rlib/stamp").read_text() == "one\n"
+        assert not (copy.root / "crates/beside/out").exists()
+
+    @pytest.mark.parametrize("word", [" --anew", ""])
+    def test_anew(self, copy, word):
+        """A gate that keeps nothing has no word for it."""
+        rt = copy.work / "kit/bin/rt"
+        rt.write_text(RT.replace(" [--anew]", word))
+        for _ in range(2):
+            assert copy.prove("--anew").status == 0
+            assert copy.told() == [f"ci{word}: low other bearoff_cli"]
 
     @pytest.mark.parametrize("number", [signal.SIGKILL, signal.SIGTERM])
     def test_a_proof_that_is_ended(self, copy, number):
-        """Its provers end with it, and another one can begin."""
-        (copy.work / "kit/bin/rattle").write_text('#!/bin/sh\necho $$ >>"$TOLD"; exec sleep 600\n')
-        words, told = [copy.root / "tools/prove", "bearoff_cli", "--jobs", "2"], []
+        """The gate ends with it, and another one can begin."""
+        rt, file = copy.work / "kit/bin/rt", copy.told_file
+        told = lambda: file.read_text().splitlines() if file.exists() else []
+        rt.write_text(
+            RT.replace("crates/*; do", 'crates/*; do echo $$ >>"$TOLD"; exec sleep 600\n')
+        )
+        words = [copy.root / "tools/prove", "bearoff_cli", "--jobs", "2"]
         with subprocess.Popen(words, env=copy.environment(), stderr=subprocess.DEVNULL) as proving:
-            wait_until(lambda: told.extend(copy.told()) or len(told) == 2)
+            wait_until(lambda: len(told()) == 2)
             proving.send_signal(number)
-        wait_until(lambda: not any(os.path.exists(f"/proc/{it}") for it in told))
-        assert not [it for it in told if os.path.exists(f"/proc/{it}")]
-        (copy.work / "kit/bin/rattle").write_text(RATTLE)
+        wait_until(lambda: not os.path.exists(f"/proc/{told()[1]}"))
+        assert not os.path.exists(f"/proc/{told()[1]}")
+        rt.write_text(RT)
         assert copy.prove().status == 0
 
-    def test_again(self, copy):
-        copy.prove()
-        copy.told()
-        expect(copy.run("--prove"), 0, "", "")
-        assert copy.told() == []
+    def test_a_source_that_changes_meanwhile(self, copy):
+        """What was proved is that of the sources as they were."""
+        rt = copy.work / "kit/bin/rt"
+        rt.write_text(RT.replace("crates/*; do", f'crates/*; do echo two >"{copy.low}"'))
+        expect(copy.prove(), 1, "", "*made: a source changed meanwhile*")
+        expect(copy.run(), 0, "as written\na line", CHANGED)
+
+
+class TestGate:
+    """What `rt ci` made of the crates here is taken, and nothing of it is proved again."""
+
+    @pytest.fixture
+    def gate(self, copy):
+        """Runs the gate, and gives how a proof of some crates after it calls the kit."""
+
+        def run(*crates, status=0, **how):
+            prove = copy.root / "tools/prove"
+            done = copy.run("--gate", "rt", "ci", by=prove, **how)
+            assert done.status == status, done
+            copy.told()
+            (copy.work / "kit/bin/rt").write_text(RT)
+            return copy.run(*crates, by=prove).status == 0 and copy.told()
+
+        return run
+
+    def test_what_it_proved(self, copy, gate):
+        assert gate("bearoff_cli", "beside") == []
+        expect(copy.run("check", "x"), 0, "proved check x", "")
+
+    def test_a_library_that_stood_before(self, copy, gate):
+        """The gate puts that back, whatever it was made of."""
+        (copy.root / "crates/low/out/rlib/low.rlib").mkdir(parents=True)
+        assert gate("low") == ["ci: low"]
+
+    def test_what_failed(self, gate):
+        assert gate("other", status=1, failing="other") == ["ci: other"]
+
+    def test_a_source_that_changes_meanwhile(self, copy, gate):
+        rt = copy.work / "kit/bin/rt"
+        rt.write_text(RT.replace("crates/*; do", f'crates/*; do echo two >"{copy.low}"'))
+        assert gate("bearoff_cli", status=1) == ["ci: low other bearoff_cli"]
+
+    @pytest.mark.parametrize("words", ["", "low --gate rt ci"])
+    def test_wrong_words(self, copy, words):
+        done = copy.run(*words.split(), by=copy.root / "tools/prove")
+        expect(done, 2, "", "usage: *either crates or --gate")
 
 
 class TestAfterAProof:
@@ -248,6 +306,20 @@ class TestAfterAProof:
     def test_the_program(self, copy):
         expect(copy.run("check", "x"), 0, "proved check x", "")
         assert copy.told() == []
+
+    def test_version(self, copy):
+        """It is proved, of a commit with or without changes."""
+        succeed("git", "init", "-q", copy.root)
+        line = f"proved --version\nproved, {copy.work}/kit/START-HERE.md"
+        expect(copy.run("--version"), 0, line, "")
+        who = ["-c", "user.name=a", "-c", "user.email=a"]
+        succeed("git", "-C", copy.root, "add", "tools")
+        succeed("git", "-C", copy.root, *who, "commit", "-qm", "one")
+        commit = succeed("git", "-C", copy.root, "describe", "--always").decode().strip()
+        expect(copy.run("--version"), 0, f"{line}, {commit}", "")
+        (copy.root / "tools/unproved").write_text(f"{AS_WRITTEN}# a change\n")
+        expect(copy.run("--version"), 0, f"{line}, {commit}-dirty", "")
+        expect(copy.run("--version", has_kit=False), 0, "proved --version\nproved", "")
 
     def test_by_a_link(self, copy):
         os.symlink(copy.launcher, copy.here / "link")
@@ -273,7 +345,17 @@ class TestAfterAProof:
         expect(copy.run(), 0, "as written\na line", CHANGED)
         assert copy.told() == COMPILED
         assert copy.prove().status == 0
-        assert "end bearoff_cli" in copy.told()
+        assert copy.told() == ["ci: low other bearoff_cli"]
+
+    def test_a_change_that_keeps_size_and_time(self, copy):
+        """Also where the sum of the sources is kept, so that no file is read."""
+        time.sleep(2.1)
+        expect(copy.run(), 0, "proved", "")
+        assert (copy.root / "out/sources.seen").exists(), "the sum of old files is not kept"
+        was = copy.low.stat()
+        copy.low.write_text("two\n")
+        os.utime(copy.low, ns=(was.st_atime_ns, was.st_mtime_ns))
+        expect(copy.run(), 0, "as written\na line", CHANGED)
 
     def test_times_alone(self, copy):
         """A source that is newer and says the same is no change."""
@@ -293,146 +375,36 @@ class TestAfterAProof:
     def test_what_was_not_proved(self, copy, other):
         """A program that was put in the place of the proved one, or whose proof was of other
         sources, is not run, and --prove makes the proved one again."""
-        sums = copy.fresh.read_text().split()
+        sums = copy.note.read_text().splitlines()
         if other == "program":
             copy.program.write_text("#!/bin/sh\necho unproved\n")
         elif other == "nothing":
-            copy.fresh.unlink()
+            copy.note.unlink()
         else:
             sums = [sums[0], "0" * 64] if other == "program's sum" else ["0" * 64, sums[1]]
-            copy.fresh.write_text("" if other == "empty" else "".join(f"{it}\n" for it in sums))
+            copy.note.write_text("" if other == "empty" else "".join(f"{it}\n" for it in sums))
         expect(copy.run(), 0, "as written\na line", CHANGED)
         copy.told()
         assert copy.prove().status == 0
-        assert "end bearoff_cli" in copy.told()
+        assert copy.told() == ["ci: low other bearoff_cli"]
         expect(copy.run(), 0, "proved", "")
 
     def test_what_is_compiled_as_it_is_written(self, copy):
         """The program without a proof is no reason to leave the proof out."""
-        copy.fresh.unlink()
+        copy.note.unlink()
         assert copy.run().status == 0
         shutil.copy(copy.root / "out/unproved/bearoff", copy.program)
         copy.told()
         assert copy.prove().status == 0
-        assert "end bearoff_cli" in copy.told()
+        assert copy.told() == ["ci: low other bearoff_cli"]
 
 
-class TestASecondClone:
-    """What another clone of the same user proved of the same texts is taken."""
-
-    @pytest.fixture
-    def other(self, copy):
-        assert copy.prove().status == 0
-        shutil.copytree(copy.root, copy.work / "another", ignore=shutil.ignore_patterns("out"))
-        copy.told()
-        copy.launcher = copy.work / "another/bearoff"
-        return copy.work / "another"
-
-    def begun(self, copy):
-        return {line.split()[1] for line in copy.told() if line.startswith("begin")}
-
-    def test_the_same_texts(self, copy, other):
-        expect(copy.prove(), 0, "", "*2 of them are proved already*is proved and built*")
-        assert self.begun(copy) == {"bearoff_cli"}
-        assert (other / "crates/low/out/rlib/low.rlib/format").exists()
-
-    def test_another_text(self, copy, other):
-        (other / "crates/low/src/lib.rt").write_text("two\n")
-        assert copy.prove().status == 0
-        assert self.begun(copy) == {"low", "bearoff_cli"}
-
-    def test_anew(self, copy, other):
-        assert copy.prove("--anew").status == 0
-        assert self.begun(copy) == {"low", "other", "bearoff_cli"}
-
-    @pytest.mark.parametrize("spoiled", ["lock", "low", ""])
-    def test_a_cache_that_can_not_be_used(self, copy, other, spoiled):
-        """It spares time and nothing else."""
-        place = copy.work / "cache/bearoff/proofs" / spoiled
-        shutil.rmtree(place) if place.is_dir() else place.unlink()
-        (place.mkdir if spoiled == "lock" else place.touch)()
-        expect(copy.prove(), 0, "", "*is proved and built*")
-        assert "bearoff_cli" in self.begun(copy)
-
-    def test_at_once(self, copy, other):
-        """Two clones that keep and take at the same time."""
-        (other / "crates/low/src/lib.rt").write_text("two\n")
-        words = [[it / "bearoff", "--prove", "--anew"] for it in (copy.root, other)]
-        provers = [subprocess.Popen(it, env=copy.environment()) for it in words]
-        assert [it.wait() for it in provers] == [0, 0]
-        kept = copy.work / "cache/bearoff/proofs/low/out/rlib/stamp"
-        assert kept.read_text() in ("one\n", "two\n")
-
-    def test_a_limit(self, copy, other):
-        """What was not wanted for longest goes first, and what was kept last stays."""
-        script = other / "tools/prove"
-        text = script.read_text()
-        assert text.count("MOST_KEPT = 6_000_000_000\n") == 1
-        script.write_text(text.replace("MOST_KEPT = 6_000_000_000\n", "MOST_KEPT = 12\n"))
-        assert copy.prove().status == 0
-        kept = copy.work / "cache/bearoff/proofs"
-        assert [it.name for it in kept.iterdir() if it.is_dir()] == ["bearoff_cli"]
-
-
-class TestAfterTheGate:
-    """What `rt ci` left counts, where tools/prove --gate finds the sources as they were when that
-    began, and what was made since."""
-
-    def begin(self, copy):
-        begun = copy.work / "begun"
-        begun.write_bytes(succeed(copy.root / "tools/sources"))
-        return begun
-
-    def build(self, copy):
-        for name in ("low", "other"):
-            library = copy.root / f"crates/{name}/out/rlib/{name}.rlib"
-            library.mkdir(parents=True, exist_ok=True)
-            (library / "format").touch()
-            assert not (library.parent / "stamp").exists()
-        copy.program.parent.mkdir(exist_ok=True)
-        copy.program.write_text('#!/bin/sh\necho proved "$@"\n')
-        copy.program.chmod(0o755)
-
-    def mark(self, copy, begun):
-        return copy.run("--gate", begun, by=copy.root / "tools/prove")
-
-    @pytest.mark.parametrize("is_linked", [False, True])
-    def test_what_it_built(self, copy, is_linked):
-        """Or took of an earlier run, by another link."""
-        self.build(copy)
-        begun = self.begin(copy)
-        for path in [*copy.root.glob("crates/*/out/rlib/*/format"), copy.program]:
-            (copy.work / path.parent.name).hardlink_to(path) if is_linked else path.touch()
-        expect(self.mark(copy, begun), 0, "", "")
-        expect(copy.run("mean"), 0, "proved mean", "")
-        assert (copy.root / "crates/low/out/rlib/stamp").read_text() == "one\n"
-
-    def test_what_was_there_before_it(self, copy):
-        self.build(copy)
-        expect(self.mark(copy, self.begin(copy)), 0, "", "")
-        expect(copy.run(), 0, "as written\na line", CHANGED)
-        assert not (copy.root / "crates/low/out/rlib/stamp").exists()
-
-    def test_without_a_word_of_it(self, copy):
-        self.build(copy)
-        expect(copy.run(), 0, "as written\na line", CHANGED)
-
-    def test_a_source_that_changed_meanwhile(self, copy):
-        begun = self.begin(copy)
-        self.build(copy)
-        copy.low.write_text("two\n")
-        expect(self.mark(copy, begun), 1, "", "prove: a source was changed while the gate ran*")
-        expect(copy.run(), 0, "as written\na line", CHANGED)
-
-
-def test_the_first_command_of_the_readme(room, note):
-    """With the kit, in a copy where nothing is proved."""
+def test_the_first_command_of_the_readme(room, note, request):
+    """With the kit, in a copy where nothing is proved; with --unproved the program is compiled."""
     assert shutil.which("rt"), "the Rattle kit's command rt is missing"
-    (room / "tools").mkdir()
-    (room / "c").mkdir()
-    for name in ("crates.txt", "bearoff", "tools/sources", "tools/unproved", "c/bearoff.map"):
-        shutil.copy(ROOT / name, room / name)
-    shutil.copytree(ROOT / "crates", room / "crates", ignore=shutil.ignore_patterns("out"))
+    copy_all(room)
+    if request.config.getoption("--unproved"):
+        succeed("cp", "--parents", "out/unproved/bearoff", "out/unproved/.program", room, cwd=ROOT)
     page = (ROOT / "README.md").read_text(encoding="utf-8")
     found = re.search(r"(?m)^    (printf .*\| \./bearoff)\n\n.*\n\n((?:    .*\n)+)", page)
     assert found, "the README has no first command, or no answer to it"
@@ -444,5 +416,6 @@ def test_the_first_command_of_the_readme(room, note):
         )
         note(f"the README's {what}, where nothing is proved, took {time.time() - began:.1f} s")
         assert (done.stdout, done.returncode) == (answer, 0), done.stderr
-        assert fnmatch.fnmatchcase(done.stderr.rstrip("\n"), NOTE)
-        assert done.stderr.count("\n") == 1
+        said = re.sub(r"bearoff: compiling, \d+ s so far .*\n", "", done.stderr)
+        assert fnmatch.fnmatchcase(said.rstrip("\n"), NOTE)
+        assert said.count("\n") == 1

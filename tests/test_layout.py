@@ -1,49 +1,42 @@
 """The Python, and the C of tests, are laid out as `make format` lays them out; no line of the crates
 is too long; no test names a device of the machine to a program; no sum that may only fall has
-risen; and a make beside another one does no harm."""
+risen; a make beside another one does no harm; and what others wrote has its licence."""
 
 import re
-import shutil
 import subprocess
+from pathlib import Path
 
 import pytest
 
-from running import ROOT, expect_same, expect_that, need, run, succeed
+from running import ROOT, copy_all, expect_same, expect_that, need, run, succeed
 
 # others break some lines elsewhere
 VERSIONS = {"black": " 23.", "clang-format": " 14."}
 
 
-def copy_all(room):
-    """Copies what is tracked into a repository of its own, and gives the names."""
-    names = succeed("git", "ls-files", "-z", cwd=ROOT).decode("utf-8").split("\0")[:-1]
-    names = [name for name in names if (ROOT / name).exists()]
-    for name in names:
-        (room / name).parent.mkdir(parents=True, exist_ok=True)
-        shutil.copy(ROOT / name, room / name)
-    succeed("git", "init", "--quiet")
-    succeed("git", "add", "--all")
-    return names
-
-
-def test_layout(room):
-    """In a copy `make format` changes nothing."""
+@pytest.mark.parametrize("since", ["HEAD~1", pytest.param("", marks=pytest.mark.gate)])
+def test_layout(room, since):
+    """In a copy `make format` changes nothing, of all or of what has changed since a commit."""
     need("git", "make", *VERSIONS)
     for tool, version in VERSIONS.items():
         if version not in succeed(tool, "--version").decode("utf-8"):
             pytest.skip(f"this {tool} is not of version{version}")
     names = copy_all(room)
+    if since:
+        changed = run("git", "diff", "--name-only", since, cwd=ROOT).output.decode("utf-8").split()
+        same = {name for name in names if name.endswith(".py")} - {*changed}
+        names = [name for name in names if name not in same]
+        succeed("git", "rm", "--quiet", "-f", *same)
     succeed("make", "format")
     for name in names:
         expect_same(name, ROOT / name, f"{name}: run make format")
 
 
-def test_makes_at_once(room):
-    """Twenty at once say of which sources things are made."""
+def test_sums_at_once(room):
+    """Twenty at once say the same of the sources, whether or not a file is read."""
     copy_all(room)
-    makes = [subprocess.Popen(["make", "--silent", "out/sources"]) for _ in range(20)]
-    assert [make.wait() for make in makes] == [0] * 20
-    assert (room / "out/sources").read_bytes() == succeed(ROOT / "tools/sources")
+    told = [subprocess.Popen([room / "tools/sources"], stdout=subprocess.PIPE) for _ in range(20)]
+    assert {it.communicate()[0] for it in told} == {succeed(ROOT / "tools/sources")}
 
 
 def test_columns():
@@ -53,7 +46,7 @@ def test_columns():
         for path in sorted((ROOT / "crates").rglob("*"))
         if path.suffix in (".rt", ".antt") and "out" not in path.relative_to(ROOT).parts
         for number, line in enumerate(path.read_text(encoding="utf-8").splitlines(), 1)
-        if len(line) > (120 if re.match(r"\s*(pub |ghost )?use ", line) else 100)
+        if len(line) > (120 if re.match(r"\s*(unfoldable )?(pub |ghost )?use ", line) else 100)
     ]
     assert not long, "\n".join(long)
 
@@ -63,7 +56,7 @@ def test_ceilings(room):
     succeed(ROOT / "tools/counts", "--sums")
     copy_all(room)
     succeed(room / "tools/counts", "--lower")
-    with open(room / "web/why.js", "a", encoding="utf-8") as page:
+    with open(room / "web/question/why.js", "a", encoding="utf-8") as page:
         page.write("\n")
     done = run(room / "tools/counts", "--sums")
     said = b"lines of the page: 1 OVER ITS CEILING\n"
@@ -71,6 +64,26 @@ def test_ceilings(room):
     expect_that(said in done.output, done, said)
     done = run(room / "tools/counts", "--lower")
     expect_that(done.status == 1 and said in done.output, done, "a ceiling that nothing raises")
+
+
+def test_licences_of_others():
+    """What is shipped has the copyright of each library of the toolchain that is compiled into it,
+    and of what Debian has that is in the page."""
+    told = (ROOT / "packaging/third-party-licences.txt").read_text(encoding="utf-8")
+    kit = Path(succeed("rt", "doc").decode().strip()).parent / "rattle"
+    rows = dict(re.findall(r"(?m)^(\w+)[^:\n]*:(.*)", (ROOT / "crates.txt").read_text()))
+    names, wanted = ["bearoff_cli", "bearoff_c"], set()
+    for name in names:
+        texts = [path.read_text() for path in sorted((kit / name).glob("src/**/*.rt"))]
+        uses = rows[name].split() if name in rows else re.findall(r"\buse (\w+)::", "".join(texts))
+        names += {it for it in uses if it in rows or (kit / it / "README.md").exists()} - {*names}
+        for licence in (kit / name).glob("LICENSE*"):
+            wanted |= {f"  {name} ", *re.findall(r"Copyright \(c\).*", licence.read_text())}
+    need("pako")
+    with open("/usr/share/doc/node-pako/copyright", encoding="utf-8") as file:
+        upstream = file.read().split("Files: debian")[0]
+    wanted |= set(re.findall(r"\d{4}-\d{4} (?!.*Tupitsin)(.*)", upstream)) | {"  pako "}
+    assert len(wanted) > 12 and not {it for it in wanted if it not in told}, wanted
 
 
 def test_devices():

@@ -7,30 +7,33 @@ Any other number in digits has to be a pip count of such a position, or what the
 says of it; and so many checkers, or so many on a point, have to be there. A difference stands
 behind `from:`, as in `51.943 - 49.679 > 2` or `158/81 - 1/1 = 77/81`, and has to hold of such
 numbers. A roll that is asked has to have more than one play. The page, docs/page.md, has to
-name the lessons in their order. What the ace-stack rule is off over all stacks is compared too,
-and what a third checker costs at most. An
-estimate that a step names has to be what its rule of thumb says of the position."""
+name the lessons in their order. What a third checker costs at most is compared too, and what a rule
+of thumb estimates where a step names one."""
 
 import itertools
 import re
+import subprocess
 from fractions import Fraction
 
 import pytest
 
-from running import ROOT, succeed
+from running import ROOT
 
 TEXT = (ROOT / "web/lessons.txt").read_text(encoding="utf-8")
 
 
-@pytest.fixture
+@pytest.fixture(scope="module")
 def replies(program, board):
-    """What the program replies to lines about the whole board."""
+    """What the program replies to lines about the whole board, which it checks once."""
+    words, pipe = [program, "query", "--board", board(90)], subprocess.PIPE
+    with subprocess.Popen(words, stdin=pipe, stdout=pipe, encoding="ascii") as asked:
 
-    def asked(lines):
-        text = "".join(f"{line}\n" for line in lines)
-        return succeed(program, "query", "--board", board(90), input=text).decode().splitlines()
+        def told(lines):
+            asked.stdin.write("".join(f"{line}\n" for line in lines))
+            asked.stdin.flush()
+            return [asked.stdout.readline().rstrip("\n") for _ in lines]
 
-    return asked
+        yield told
 
 
 def nearest(number):
@@ -170,16 +173,6 @@ def test_a_third_checker(replies):
     dearest = max(three - two for three, two in zip(means[::2], means[1::2]))
     said = rf"\b{dearest} of a roll\. No third checker costs more"
     assert re.search(said, " ".join(TEXT.split())), f"a third checker costs at most {dearest}"
-
-
-def test_the_ace_stack_rule(replies):
-    """By how much it is off, at most and in the mean, over all stacks."""
-    errors = [
-        abs(numbers(replies, f"{count},0,0,0,0,0")[0] - rule_of(count)) for count in range(1, 16)
-    ]
-    script = (ROOT / "web/training.js").read_text(encoding="utf-8")
-    told = re.search(r'OVER_ALL = \{ most: "([\d.]+)", mean: "([\d.]+)" \}', script)
-    assert told.groups() == (nearest(max(errors)), nearest(sum(errors) / 15))
 
 
 def test_the_page_names_the_lessons():

@@ -17,7 +17,6 @@ import hashlib
 import os
 import re
 import shutil
-import subprocess
 import sys
 from itertools import combinations
 from pathlib import Path
@@ -28,13 +27,13 @@ from running import (
     CALLERS,
     HERE,
     ROOT,
-    as_bytes,
     code_blocks,
     coded_rows,
     expect,
     expect_same,
     expect_that,
     need,
+    race_rows,
     run,
     succeed,
 )
@@ -191,7 +190,9 @@ def statuses():
 def order_of_refusals():
     """The reasons in the order in which they are told: what is none of what a call wants, which C
     can't be given, and then the statuses as the header has them."""
-    told = re.search(r" Order\. (.*?)\. ", " ".join(HEADER.replace("\n *", "\n").split()))[1]
+    told = re.search(
+        r" Order of errors\. .*?: (.*?)\. ", " ".join(HEADER.replace("\n *", "\n").split())
+    )[1]
     names = re.findall("BEAROFF_([A-Z_]+)", told)
     return ["bad-line", *(name.lower().replace("_", "-") for name in names)]
 
@@ -300,9 +301,8 @@ def test_changed_bytes(caller, built, board, note, kind, bound, times):
     # a database of more than 44 pips is of version 2 as it is built
     is_new = kind == "version 2" and bound <= 44
     file = board(bound) if kind == "board" else built(bound, is_new)
-    done = run(caller("reads_outside"), file, times, timeout=600)
-    expect_that(done.status == 0, done, "no call that reads or writes outside")
-    note(f"reads outside, {kind} of {bound} pips: {done.output.decode().partition(':')[0]}")
+    told = succeed(caller("reads_outside"), file, times, timeout=600)
+    note(f"reads outside, {kind} of {bound} pips: {told.decode().partition(':')[0]}")
 
 
 def test_changed_bytes_of_every_call():
@@ -337,10 +337,10 @@ def test_the_stack_that_is_said():
     assert f"#define BEAROFF_STACK {FILE_STACK << 10} " in text
     assert f"every other call less than {CALL_STACK} KB." in text
     assert (
-        "It needs less than BEAROFF_STACK bytes of stack, and for a database to 8 pips less than"
-        " 128 KB." in text
+        "It needs less than BEAROFF_STACK bytes of stack, and less than 128 KB for a database of at"
+        " most 8 pips." in text
     )
-    assert "it needs less than 1.5 MB of stack, and less than 128 KB to 8 pips." in page
+    assert "less than 1.5 MB of stack, and less than 128 KB for bounds up to 8 pips." in page
 
 
 @pytest.mark.parametrize(
@@ -376,9 +376,8 @@ def test_a_build_in_the_main_thread(caller, built_by_c, kind, bound):
 )
 def test_the_stack_of_each_call(caller, kind, bound, note):
     """What each export takes, of a database or a board of so many pips."""
-    done = run(caller("stacks"), kind, bound, timeout=600)
-    expect_that(done.status == 0, done, "status 0")
-    took = {name: int(size) for name, size in map(str.split, done.output.decode().splitlines())}
+    told = succeed(caller("stacks"), kind, bound, timeout=600)
+    took = {name: int(size) for name, size in map(str.split, told.decode().splitlines())}
     most = {name: FILE_STACK for name in ("open", "upgrade", "build")}
     if kind == "database":
         most["build"] = build_stack(bound)
@@ -403,14 +402,14 @@ def test_the_stack_of_every_call():
 def test_bytes_that_change_while_they_are_read(caller, built, board, note, kind, bound):
     """Each call ends with a status, and never by a signal."""
     file = board(bound) if kind == "board" else built(bound, kind == "version 2")
-    done = run(caller("races"), file, ROUNDS, timeout=600)
-    expect_that(done.status == 0, done, "a status of each call, refused and accepted openings")
-    note(f"races, {kind} of {bound} pips: {done.output.decode().splitlines()[0]}")
+    told = succeed(caller("races"), file, ROUNDS, timeout=600)
+    note(f"races, {kind} of {bound} pips: {told.decode().splitlines()[0]}")
 
 
-def test_rooms(caller):
+@pytest.mark.parametrize("step", [14, pytest.param(1, marks=pytest.mark.gate)])
+def test_rooms(caller, step):
     """Rooms of each size that matters."""
-    expect(run(caller("rooms"), timeout=600), 0)
+    expect(run(caller("rooms"), step, timeout=600), 0)
 
 
 @pytest.mark.parametrize(
@@ -425,7 +424,7 @@ def test_rooms(caller):
 def test_sizes(name, source):
     """The rooms that the header names are as large as the contracts say is enough, and no larger;
     the package for JavaScript has them too."""
-    contracts = (ROOT / "crates/bearoff_c/src" / source).read_text(encoding="utf-8")
+    contracts = (ROOT / "crates/bearoff_c/src/calls" / source).read_text(encoding="utf-8")
     told = re.search(rf"(?m)^#define BEAROFF_{name} (\d+)$", HEADER)[1]
     assert {told} == {*re.findall(r"(?m)^    ensures most \{ .*≤ (\d+) \}$", contracts)}
     if name == "RESULTS":
@@ -433,9 +432,10 @@ def test_sizes(name, source):
         assert f"\nconst MOST_RESULTS = {told};\n" in script
 
 
-def test_largest(caller, built):
-    """The longest list of results, and the longest reply, of all positions up to 58 pips."""
-    expect(run(caller("largest"), built(58), timeout=600), 0, "108 results, 5828 bytes")
+@pytest.mark.parametrize("step", [24, pytest.param(1, marks=pytest.mark.gate)])
+def test_largest(caller, built, step):
+    """The longest list of results, and the longest reply, to 58 pips: both are of rank 44,809."""
+    expect(run(caller("largest"), built(58), step, timeout=600), 0, "108 results, 5828 bytes")
 
 
 def test_board_room():
@@ -473,9 +473,8 @@ def test_files(caller, built, board, note, name, kind, bound, step):
     # a database of more than 44 pips is of version 2 as it is built
     is_new = kind == "version 2" and bound <= 44
     file = board(bound) if kind == "board" else built(bound, is_new)
-    done = run(caller(name), file, step, timeout=600)
-    expect_that(done.status == 0, done, "the same answers")
-    note(f"files, {kind} of {bound} pips: {done.output.decode().strip()}")
+    told = succeed(caller(name), file, step, timeout=600)
+    note(f"files, {kind} of {bound} pips: {told.decode().strip()}")
 
 
 def test_status_texts(library):
@@ -484,12 +483,12 @@ def test_status_texts(library):
         int(number): text
         for number, text in re.findall(r"(?m)^    BEAROFF_[A-Z_]+ = (\d+), +/\* (.*) \*/$", HEADER)
     }
-    assert [*said] == [*range(12), *range(16, 28)]
+    assert [*said] == [*range(12), *range(16, 28), *range(32, 37)]
     room = int(re.search(r"(?m)^#define BEAROFF_STATUS_TEXT (\d+)$", HEADER)[1])
     call = ctypes.CDLL(str(library / "libbearoff.so")).bearoff_status_text
     call.argtypes = [ctypes.c_uint32, ctypes.c_char_p, ctypes.c_size_t, ctypes.c_void_p]
     call.restype = ctypes.c_uint32
-    said[28] = "the bytes were changed while they were read"
+    said[28] = "the bytes changed while they were read"
     for status in (*range(300), 2**31, 2**32 - 1):
         text, needed = ctypes.create_string_buffer(room), ctypes.c_size_t()
         assert call(status, text, room, ctypes.byref(needed)) == 0
@@ -511,14 +510,29 @@ def test_the_program_of_the_header(library, room, built):
 
 def test_texts(library):
     """What is a position as a text."""
-    call = ctypes.CDLL(str(library / "libbearoff.so")).bearoff_parse_position
-    call.argtypes = [ctypes.c_char_p, ctypes.c_size_t, ctypes.c_char_p]
+    call = ctypes.CDLL(str(library / "libbearoff.so")).bearoff_read_position
+    call.argtypes = [ctypes.c_char_p, ctypes.c_size_t, ctypes.c_char_p, ctypes.c_char_p]
     for verdict, _, text in coded_rows("texts.txt", 2):
-        content, position = text.encode(), ctypes.create_string_buffer(b"-" * 6, 6)
-        status = call(content, len(content), position)
-        told = {11: "bad-text", 3: "too-many"}.get(status) or ",".join(map(str, position.raw))
+        content, race = text.encode(), ctypes.create_string_buffer(b"-" * 16, 16)
+        status = call(content, len(content), race, ctypes.create_string_buffer(1))
+        told = {11: "bad-text", 3: "too-many"}.get(status) or ",".join(map(str, race.raw[:6]))
         assert told == verdict, text
-        assert status == 0 or position.raw == b"-" * 6, text
+        assert status == 0 or race.raw == b"-" * 16, text
+
+
+def test_races(library):
+    """What is read of an XGID, of IDs and of six counts, and why a text is refused."""
+    call = ctypes.CDLL(str(library / "libbearoff.so")).bearoff_read_position
+    call.argtypes = [ctypes.c_char_p, ctypes.c_size_t, ctypes.c_char_p, ctypes.c_char_p]
+    rows = race_rows()
+    assert len(rows) > 100
+    for text, wanted in rows:
+        race, place = (ctypes.create_string_buffer(b"-" * size, size) for size in (16, 1))
+        status = call(text.encode(), len(text.encode()), race, place)
+        assert status == 0 or race.raw == b"-" * 16, text
+        told = (*race.raw,) if status == 0 else (*place.raw,)
+        assert " ".join(map(str, (status, *told))) == wanted, text
+        assert status or place.raw == b"\0", text
 
 
 @pytest.mark.parametrize("compiler", ["cc", "c++"])
@@ -576,8 +590,9 @@ def matches(store):
 
 
 @pytest.fixture
-def python(library, program, databases):
+def python(request, library, program, databases):
     """Runs Debian's Python with the package of this repository."""
+    is_quick = request.config.getoption("--unproved") > request.config.getoption("--by-hand")
 
     def run_it(*words, cwd=ROOT / "python", path=ROOT / "python", **more):
         environment = {
@@ -586,6 +601,7 @@ def python(library, program, databases):
             "BEAROFF_LIBRARY": str(library / "libbearoff.so"),
             "BEAROFF_PROGRAM": str(program),
             "BEAROFF_DATABASES": str(databases),
+            "BEAROFF_STEP": "11" if is_quick else "1",
             "PYTHONDONTWRITEBYTECODE": "1",
             **more,
         }
@@ -605,8 +621,7 @@ def test_the_readme(python, program, room):
 def test_python_types():
     need("mypy")
     words = ["/usr/bin/mypy", "--strict", "--cache-dir=/dev/null", "bearoff", "tests"]
-    done = run(*words, cwd=ROOT / "python", timeout=600)
-    expect_that(done.status == 0, done, "no fault of the types")
+    succeed(*words, cwd=ROOT / "python", timeout=600)
 
 
 PYTHON_TESTS = sorted(path.stem for path in (ROOT / "python/tests").glob("test_*.py"))
@@ -672,10 +687,24 @@ def test_board_example_in_python(python, room):
     expect(python("example.py", cwd=room), 0, PRINTED_OF_A_BOARD)
 
 
-def test_pip(python, example):
+@pytest.fixture
+def pip(python, example):
+    """Lets pip install the package from a place, and then runs the example over it."""
+    need("pip")
+    words = ["-m", "pip", "install", "-q", "--no-index", "--no-deps", "--target", example / "site"]
+
+    def install(place):
+        done = python(*words, place, cwd=example, path="")
+        expect_that(done.status == 0, done, "pip to install the package")
+        expect(python("example.py", cwd=example, path=example / "site"), 0, PRINTED)
+
+    return install
+
+
+def test_pip(pip):
     """The package as pip installs it, without a network, out of a checkout, in which it leaves
     nothing that git would show."""
-    need("pip", "git")
+    need("git")
     os.mkdir("checkout")
     # what a test beside this one has compiled is not in a checkout
     left_out = shutil.ignore_patterns("__pycache__")
@@ -683,19 +712,14 @@ def test_pip(python, example):
     shutil.copy(ROOT / ".gitignore", "checkout/")
     succeed("git", "init", "-q", "checkout")
     succeed("git", "-C", "checkout", "add", "-A")
-    site = example / "site"
-    words = ["-m", "pip", "install", "-q", "--no-index", "--no-deps", "--target", site]
-    done = python(*words, "./checkout/python", cwd=example, path="")
-    expect_that(done.status == 0, done, "pip to install the package")
+    pip("./checkout/python")
     words = ["ls-files", "--others", "--modified", "--exclude-standard"]
     expect(run("git", "-C", "checkout", *words))
-    expect(python("example.py", cwd=example, path=site), 0, PRINTED)
 
 
-def test_an_archive_of_the_sources(python, example):
+def test_an_archive_of_the_sources(pip):
     """The package's own archive has the same bytes where it is made again, and pip installs what is
     in it."""
-    need("pip")
     script = "import sys, wheels; wheels.build_sdist(sys.argv[1])"
     for folder in ("one", "two"):
         os.mkdir(folder)
@@ -704,11 +728,7 @@ def test_an_archive_of_the_sources(python, example):
         expect(run(*words, cwd=ROOT / "python", env=environment))
     [one], [two] = (list(Path(folder).iterdir()) for folder in ("one", "two"))
     assert (one.name, one.read_bytes()) == (two.name, two.read_bytes())
-    site = example / "site"
-    words = ["-m", "pip", "install", "-q", "--no-index", "--no-deps", "--target", site, one]
-    done = python(*words, cwd=example, path="")
-    expect_that(done.status == 0, done, "pip to install the package")
-    expect(python("example.py", cwd=example, path=site), 0, PRINTED)
+    pip(one)
 
 
 @pytest.mark.proved
@@ -718,15 +738,9 @@ def test_install(program, example):
     text = code_blocks("docs/embedding.md", "c")[0]
     Path("example.c").write_text(text, encoding="utf-8")
     prefix = example / "prefix"
-    done = run(ROOT / "packaging/install", prefix, timeout=3600)
-    expect_that(done.status == 0, done, "an installation")
-    told = succeed(
-        "pkg-config",
-        "--cflags",
-        "--libs",
-        "bearoff",
-        env={**os.environ, "PKG_CONFIG_PATH": f"{prefix}/lib/pkgconfig"},
-    ).decode()
+    succeed(ROOT / "packaging/install", prefix, timeout=3600)
+    environment = {**os.environ, "PKG_CONFIG_PATH": f"{prefix}/lib/pkgconfig"}
+    told = succeed("pkg-config", "--cflags", "--libs", "bearoff", env=environment).decode()
     words = ["-o", "installed", "example.c", *told.split(), f"-Wl,-rpath,{prefix}/lib"]
     expect(run("cc", "-std=c11", *words), 0)
     expect(run("./installed"), 0, PRINTED)
@@ -742,8 +756,7 @@ class TestCMake:
     @pytest.fixture(params=["installed", "moved"])
     def project(self, request, program, example):
         need("cmake")
-        done = run(ROOT / "packaging/install", example / "prefix", timeout=3600)
-        expect_that(done.status == 0, done, "an installation")
+        succeed(ROOT / "packaging/install", example / "prefix", timeout=3600)
         prefix = example / "prefix"
         if request.param == "moved":
             prefix = prefix.rename(example / "a moved one")

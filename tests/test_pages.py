@@ -82,7 +82,7 @@ def definitions_of(crate):
     heads = r"(?m)^((?:-- .*\n)*)(?:abbrev |unfoldable )?pub (?:record |data )?([^\s:({]+)"
     for path in files(f"crates/{crate}/specs", ".antt"):
         for comment, name in re.findall(heads, read(path)):
-            if name != "mod":
+            if name not in ("mod", "use"):
                 found.setdefault(name, re.sub(r"\s*(?:^|\n)-- ", " ", comment).strip())
     return found
 
@@ -192,7 +192,7 @@ def edits_of(crate):
 
 
 def compare_edits(page):
-    """Each wrong body that a row of the page names is an edit of the crates that stand before
+    """Each mutant that a row of the page names is an edit of the crates that stand before
     it."""
     names = r"`\w+`(?:, `\w+`)*"
     for line in read(page).split("\n"):
@@ -474,9 +474,9 @@ def compare_headline(page):
         if name not in found:
             text = found[name] = read(f"{folder}/{name}.antt")
             todo += re.findall(r"(?m)^use Rattle\.race_model\.specs\.(\w+)", text)
-    part = re.search(r"(?ms)^## What the headline rests on\n(.*?)^## ", read(page))
+    part = re.search(r"(?ms)^## What the main theorem rests on\n(.*?)^## ", read(page))
     if not part:
-        wrong.append(f"{page}: it has no part 'What the headline rests on'")
+        wrong.append(f"{page}: it has no part 'What the main theorem rests on'")
         return
     told = re.findall(r"(?m)^\d+\. \[(\w+)\.antt\]", part.group(1))
     compare_names(page, "file below IsRight", told, found)
@@ -484,7 +484,7 @@ def compare_headline(page):
         line
         for text in found.values()
         for line in text.split("\n")
-        if line.strip() and not line.startswith(("--", "use "))
+        if line.strip() and not line.lstrip().startswith(("--", "use "))
     ]
     stated = re.search(r"(\w+) files, (\d+) lines", part.group(1))
     counted = (
@@ -605,7 +605,7 @@ def compare_file_format(page, program):
         text,
     )
     compact = re.search(
-        r"In a file of version 2 the record has (\d+) bytes, .*? It begins at offset (\d+),", text
+        r"In version 2 the record has (\d+) bytes, .*? It starts at offset (\d+)\.", text
     )
     shares = re.findall(r"\) / 36 = (\d+)/(\d+) \* W = (\d+)", text)
     if not places or not compact or len(shares) != 3:
@@ -645,7 +645,7 @@ def compare_version(version):
     if not re.fullmatch(r"\d+\.\d+\.\d+", version):
         wrong.append(f"VERSION: '{version}' is no version")
     for path, said in (
-        ("crates/command_line/src/words.rt", r'\.version\("([^"]*)"\)'),
+        ("crates/command_line/src/commands.rt", r'\.version\("([^"]*)"\)'),
         ("c/bearoff.h", r'#define BEAROFF_VERSION "([^"]*)"'),
         ("c/bearoff.1", r'\.TH BEAROFF 1 [0-9-]+ "bearoff ([^"]*)"'),
         ("python/pyproject.toml", r'(?m)^version = "([^"]*)"$'),
@@ -661,10 +661,10 @@ def compare_version(version):
         r"\*(?:major|minor|patch) = (\d+);",
         r"ensures (?:major|minor|patch) \{ \w+\.new ≡ (\d+) \}",
     ):
-        found = ".".join(re.findall(said, read("crates/bearoff_c/src/library.rt")))
+        found = ".".join(re.findall(said, read("crates/bearoff_c/src/calls/library.rt")))
         if found != version:
             wrong.append(
-                f"crates/bearoff_c/src/library.rt: the version is {found}, and not {version}"
+                f"crates/bearoff_c/src/calls/library.rt: the version is {found}, and not {version}"
             )
     newest = re.search(r"(?m)^## \[(\d[^\]]*)\]", read("CHANGELOG.md"))
     if not newest or newest.group(1) != version:

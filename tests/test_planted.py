@@ -1,4 +1,4 @@
-"""Plants wrong bodies that meet every contract, since they only give up, and sees a test refuse
+"""Plants mutants that meet every contract, since they only give up, and sees a test refuse
 each: bodies that always answer want of memory, or a fault of a reader or a writer; that give up
 over some size; that read or flush where they need not. Each is planted in a copy of the
 repository, where the tests of one crate, or one of the short trials of failing_calls, run without
@@ -39,8 +39,6 @@ PLACES = r"""
 build | retrograde/src/building.rt | @let Some(header) = Header::new(usual_version(bound), bound) else {
 header | retrograde/src/building.rt | write_header(&header, writer)?;\n@
 compact | retrograde/src/building.rt | @let Some(header) = Header::new(COMPACT_VERSION, bound) else {
-ready | retrograde/src/ready_build.rt | @Ok(ReadyBuild {
-write | retrograde/src/ready_build.rt | @let ReadyBuild {
 upgrade | certificate/src/upgrading.rt | @let header = Header::new(COMPACT_VERSION, old.bound).unwrap();
 records | certificate/src/upgrading.rt | write_compact(table, ranks, &header, rank, writer)?;\n    }\n@
 push | retrograde/src/means.rt | @self.means.push(mean).map_err(|_| BuildFault::Memory)
@@ -48,7 +46,7 @@ record | db_layout/src/writing.rt | @law_record(mean, plays, spread);
 write_header | db_layout/src/writing.rt | @write_bytes(&header_bytes(header), writer)
 paged | db_reader/src/paged.rt | @match LruCache::new(alloc, count) {
 front | db_reader/src/paged.rt | let header = read_header(&mut self.source)?;\n@
-moves | epc_query/src/move_list.rt | @let Ok(choices) = Vec::with_capacity(alloc, found.len()) else {
+moves | epc_query/src/pages/moves.rt | @let Ok(choices) = Vec::with_capacity(alloc, found.len()) else {
 run | epc_query/src/running.rt | @let mut held = LineBuffer::new();
 take | epc_query/src/running.rt | @let Ok(taken) = reads.next(&mut chunk) else {
 answer | epc_query/src/answers.rt | @let Some(()) = answer(self, line, text) else {
@@ -56,11 +54,12 @@ mean | certificate/src/checked.rt | let Some(mean) = mean_in(&self.table.lend(ra
 shares | certificate/src/checked.rt | let Some(spread) = spread_in(&self.table.lend(rank, &room)) else {\n@
 tell | bearoff_cli/src/act.rt | @tell(alloc, perform(disk, alloc, words, input, output), errors)
 words | bearoff_cli/src/act.rt | @let mut words = lines.as_bytes();
-line | command_line/src/words.rt | @text.push_str(line)?;
+line | command_line/src/commands.rt | @text.push_str(line)?;
 read | bearoff_cli/src/files.rt | @if read.is_empty() {
-board | bearoff_cli/src/files.rt | @Ok(vec![in alloc; 0; size]?)
+file | bearoff_cli/src/files.rt | @match build(alloc, pips, &mut file) {
+board | bearoff_cli/src/files.rt | @let mut file = vec![in alloc; 0; size]?;
 audit | bearoff_cli/src/kinds.rt | @for pips in 0..=kept.bound {
-level | bearoff_cli/src/kinds.rt | @let level = board_level(&board, pips).unwrap();
+level | bearoff_cli/src/kinds.rt | @opened.put_level(pips, &mut text).unwrap();
 """
 
 # bodies that give up, each by its name, its place, when it does, what it answers then, and what has
@@ -68,8 +67,8 @@ level | bearoff_cli/src/kinds.rt | @let level = board_level(&board, pips).unwrap
 GIVING_UP = """
 build_always_wants_memory | build | bound < 59 | Err(BuildFault::Memory) | failing_calls build
 build_always_blames_the_writer | build | bound < 59 | Err(BuildFault::Write) | failing_calls build
-build_wants_memory_over_15_pips | ready | bound > 15 | Err(BuildFault::Memory) | BUILDS
-build_blames_the_writer_over_15_pips | write | self.header.bound > 15 | Err(BuildFault::Write) | BUILDS
+build_wants_memory_over_15_pips | file | pips > 15 | Err(AllocError) | BUILDS
+build_blames_the_writer_over_15_pips | build | bound > 15 | Err(BuildFault::Write) | BUILDS
 build_flushes | header | writer.flush().is_err() | Err(BuildFault::Write) | failing_calls flushes
 build_compact_always_wants_memory | compact | bound < 59 | Err(BuildFault::Memory) | file_tests
 upgrade_always_blames_the_writer | upgrade | old.bound < 59 | Err(UpgradeFault::Write) | file_tests
@@ -100,7 +99,7 @@ the_program_always_wants_memory | tell | words.len() < 9 | Told { status: 1, lin
 words_want_memory_where_there_are_three | words | lines.len() > 40 | Err(Fault::Memory) | rows TestAsk::test_words
 words_want_memory_over_100000_bytes | line | text.len() > 100_000 | Err(AllocError) | rows TestAsk::test_words
 the_program_gives_up_over_30000_bytes | read | bytes.len() > 30_000 | Err(Unread::Memory) | bearoff_cli check BUILT
-the_whole_board_always_wants_memory | board | size > 0 | Err(Fault::Memory) | rows TestBoards::test_build
+the_whole_board_always_wants_memory | board | size > 0 | Err(AllocError) | rows TestBoards::test_build
 the_audit_of_57_pips_gives_up | audit | kept.bound == 57 | Err(Fault::Write) | rows TestBounds::test_bound[57]
 the_audit_of_a_board_gives_up_at_90_pips | level | pips == 90 | Err(Fault::File) | rows TestBoards::test_audit
 """
@@ -184,14 +183,14 @@ self.records.get(&rank)
 self.records.peek(&rank)
 file_tests
 
-a_loss_under_the_least_is_none | epc_query/src/losses.rt
+a_loss_under_the_least_is_none | epc_query/src/pages/losses.rt
 None => Err(QueryFault::Read),
 None => Ok(Scaled::ZERO),
 file_tests
 
 a_board_file_over_8_megabytes_is_not_written | bearoff_cli/src/files.rt
-write_flushed(whole_board(pips, &mut room)?, output)
-write_flushed({ let f = whole_board(pips, &mut room)?; if f.len() > 1 << 23 { return Err(Fault::Write); } f }, output)
+let written = write_flushed(file.as_slice(), &mut draft.writer);
+let written = if file.len() > 1 << 23 { Err(Fault::Write) } else { write_flushed(file.as_slice(), &mut draft.writer) };
 rows TestBoards::test_build
 
 replies_before_a_failed_read_are_not_handed_on | bearoff_cli/src/kinds.rt
@@ -245,8 +244,8 @@ let mut result = self.reader.read(buf); if matches!(result, Ok(0)) { result = se
 rows TestTerminal::test_the_end[query eight-none]
 
 a_word_that_is_no_text_wants_memory | bearoff_cli/src/main.rt
-error.kind() == io::ErrorKind::InvalidData => return Err(Fault::Open),
-error.kind() == io::ErrorKind::InvalidData => return Err(Fault::Memory),
+return Err(Fault::Open);\n    }\n    Ok(words)
+return Err(Fault::Memory);\n    }\n    Ok(words)
 rows TestCommands::test_a_word_that_is_no_text[check X]
 
 two_closed_streams_have_a_stand_in | bearoff_cli/src/main.rt
@@ -260,8 +259,8 @@ let _ = error;
 rows TestAbout::test_faults
 
 a_help_that_is_asked_for_is_told_as_wrong_words | bearoff_cli/src/act.rt
-Err(error) => refused(write_help(&error, output)),
-Err(error) => Err(ProgramFault::Words(error)),
+Err(WordsError::Help(text)) => refused(write_flushed(text.as_bytes(), output)),
+Err(WordsError::Help(text)) => Err(ProgramFault::Words(text)),
 rows TestCommands::test_words_that_tell_a_text
 
 the_stack_has_room_for_a_64th | bearoff_cli/src/files.rt
@@ -279,9 +278,9 @@ if read.is_empty() {
 if read.is_empty() { let _ = read_block(file, &mut block);
 rows TestTerminal::test_a_file_that_is_typed
 
-the_help_has_no_examples | command_line/src/words.rt
-.after_help(EXAMPLES)
-.after_help(ABOUT)
+the_help_has_no_examples | command_line/src/commands.rt
+.after_long_help(EXAMPLES)
+.after_long_help(ABOUT)
 rows TestCommands::test_words_that_tell_a_text
 """
 

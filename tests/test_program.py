@@ -213,8 +213,8 @@ class TestCommands:
         ask --board eight help | ask eight help -x | ask eight --cache 3 help | about | about --
         about eight eight | about --board eight | about -- eight eight | nothing | build --board
         build --board -- | build --board large large | build --board=large
-        build --board --board large | build --pips --board large | check --board
-        check eight --board large | check --board=eight | query --board
+        build --board --board large | build --pips --board large | check --board | bogus
+        check eight --board large | check --board=eight | query --board | check --pips 3 eight
         query eight --board eight | query --cache --board eight | audit --board
         audit --board eight eight | upgrade --board eight large | --board eight
     """
@@ -222,8 +222,8 @@ class TestCommands:
     )
     def test_words_that_are_refused(self, files, ask, words):
         done = ask(words)
-        is_so = done.status == 2 and done.output == b"" and done.errors != b""
-        expect_that(is_so, done, "status 2, and a text on standard error alone")
+        is_so = (done.status, done.output) == (2, b"") and b"tip:" not in done.errors != b""
+        expect_that(is_so, done, "status 2, and a text without tips on standard error alone")
 
     # an option that a board file has not is named
     @pytest.mark.parametrize(
@@ -264,23 +264,17 @@ class TestCommands:
             ask(f"{name} {it}").output for it in ("--help", "--board --help", "--help --board")
         }
         (text,) = helps
-        assert b"FILE is a board file: the whole home board, to 90 pips" in text
-        assert name == "build" or b"`header bad-version` where `--board` is missing" in text
+        assert b"FILE has to be a board file: the whole home board, 90 pips" in text
+        assert name == "build" or b"With `--board` a database is refused with" in text
 
     # a word that is no UTF-8 text names no file; X stands for it
     @pytest.mark.parametrize(
         "words",
         [
-            "X",
-            "build --pips 8 X",
-            "build --pips X made",
-            "build --board X",
             *(f"{command} X" for command in READERS),
-            *(f"{command} --board X" for command in ("check", "query", "audit")),
-            "upgrade X made",
-            "upgrade eight X",
-            "ask X help",
-            "ask eight help X",
+            *(f"{command} --board X" for command in ("build", "check", "query", "audit")),
+            *cells("X | build --pips 8 X | build --pips X made | upgrade X made"),
+            *cells("upgrade eight X | ask X help | ask -- X help | ask X X"),
         ],
     )
     def test_a_word_that_is_no_text(self, files, ask, words):
@@ -294,20 +288,22 @@ class TestCommands:
             """
         --version|bearoff 1.0.0
         --help|Usage: bearoff [COMMAND]
+        -h|  -h, --help     Print help (see more with '--help')
         --help|Examples:
-        --help|Exit status: 0 done; 1 a file, the input, the output or memory failed, or `ask` answered no
+        --help|  1  I/O error, out of memory, or `ask` could answer none of its queries
         help build|Usage: bearoff build --pips <N> <FILE>
-        help build|The greatest pip count of the database, 0 to 58
-        help build|Exit status: 0 the file was written; 1 it, the output or memory failed (FILE is the
+        help build|The largest pip count in the database, 0 to 58
+        help build|Exit status: 0 FILE was written; 1 I/O error or out of memory (FILE is unchanged, or the whole
         check --help|Usage: bearoff check [OPTIONS] <FILE>
         query -h|Usage: bearoff query [OPTIONS] <FILE>
         ask --help|Usage: bearoff ask <FILE> <LINE>...
-        ask --help|A line as `query` reads it, in quotes: 'mean 0,0,0,0,0,1'
-        ask --help|Exit status: 0 a LINE was answered, and each has its reply; 1 none was, or FILE, the output or
+        ask --help|A query in quotes: 'mean 0,0,0,0,0,1'
+        ask --help|Exit status: 0 every query has its reply, and one at least was answered; 1 none was, I/O error
+        show --help|Usage: bearoff show [OPTIONS] <POSITION>...
         help about|Usage: bearoff about <FILE>
-        help about|Exit status: 0 FILE was accepted; 1 it, the output or memory failed; 2 the words are wrong;
+        help about|Exit status: 0 FILE is right; 1 I/O error or out of memory; 2 invalid arguments; 3 FILE failed
         audit --help|Usage: bearoff audit [OPTIONS] <FILE>
-        audit --help|Exit status: 0 the file was accepted; 1 it, the input, the output or memory failed;
+        audit --help|Exit status: 0 success; 1 I/O error or out of memory; 2 invalid arguments; 3 the file failed
         upgrade --help|Usage: bearoff upgrade <OLD> <NEW>
     """
         ),
@@ -854,41 +850,36 @@ def levels(program, built):
     return succeed(program, "audit", built(58)).splitlines(keepends=True)
 
 
-def expect_bound(ask, levels, bound):
-    """One bound: version 1 to 44 pips, and its upgrade; and from there on version 2. The files of
-    version 2 are those that were counted outside."""
-    count, (size, sha) = COUNTS[bound], COUNTED[bound]
-    expect(
-        ask(f"build --pips {bound} file", timeout=300), 0, f"built pips {bound} positions {count}"
-    )
-    expect(ask("check file"), 0, f"ok pips {bound} positions {count}")
-    expect(ask("audit file"), 0, b"".join(levels[: bound + 1]))
-    expect(ask("query --cache 65535 file", "rank 0,0,0,0,0,0"), 0, "rank 0")
-    newest = "file"
-    if bound <= 44:
-        assert os.path.getsize("file") == 32 + 426 * count
-        expect(ask("upgrade file upgraded"), 0, f"upgraded pips {bound} positions {count}")
-        expect(ask("check upgraded"), 0, f"ok pips {bound} positions {count}")
-        newest = "upgraded"
-    assert os.path.getsize(newest) == size
-    assert (
-        digest(Path(newest).read_bytes()) == sha
-    ), f"the file of version 2 of {bound} pips, counted outside"
-
-
-class TestLowBounds:
-    @pytest.mark.parametrize("bound", range(13))
-    def test_bound(self, room, ask, levels, bound):
-        expect_bound(ask, levels, bound)
-
-
 class TestBounds:
-    @pytest.mark.parametrize("bound", range(13, 59))
-    def test_bound(self, room, ask, levels, bound):
-        expect_bound(ask, levels, bound)
+    """Version 1 to 44 pips, and its upgrade; and from there on version 2. The files of version 2
+    are those that were counted outside."""
 
-    def test_there_are_59(self):
-        assert sorted(COUNTED) == list(range(59))
+    @pytest.mark.parametrize("bound", range(59))
+    def test_bound(self, room, ask, levels, bound):
+        count, newest = COUNTS[bound], "file"
+        told = f"pips {bound} positions {count}"
+        expect(ask(f"build --pips {bound} file", timeout=300), 0, f"built {told}")
+        expect(ask("check file"), 0, f"ok {told}")
+        expect(ask("audit file"), 0, b"".join(levels[: bound + 1]))
+        if bound <= 44:
+            assert os.path.getsize("file") == 32 + 426 * count
+            expect(ask("upgrade file upgraded"), 0, f"upgraded {told}")
+            expect(ask("check upgraded"), 0, f"ok {told}")
+            newest = "upgraded"
+        data = Path(newest).read_bytes()
+        assert (len(data), digest(data)) == COUNTED[bound]
+
+    # by pages it takes longer than all of the above
+    @pytest.mark.parametrize(
+        "bound",
+        [
+            pytest.param(it, marks=[pytest.mark.gate] * (it not in (*range(13), 30, 44, 58)))
+            for it in range(59)
+        ],
+    )
+    def test_pages(self, room, program, ask, bound):
+        succeed(program, "build", "--pips", bound, "file")
+        expect(ask("query --cache 65535 file", "rank 0,0,0,0,0,0"), 0, "rank 0")
 
     @pytest.mark.parametrize(
         "bound, sha",
@@ -940,7 +931,9 @@ class TestAsk:
     """Lines that are words, over each kind of file."""
 
     LINES = THREE.split("\n")[:-1]
-    HINT = "bearoff: unanswered (a LINE is one word: 'mean 0,0,0,0,0,1')"
+    OVER = "bearoff: unanswered (a board file has all positions)"
+    QUOTES = "bearoff: unanswered (quote a LINE: 'mean 0,0,0,0,0,1')"
+    FORMS = "bearoff: unanswered (queries: play 0,0,0,2,0,0 21, or mean, dist, loss, moves, rank)"
 
     @pytest.mark.parametrize("file", ["eight", "new", "board"])
     def test_files(self, files, ask, board, file):
@@ -958,6 +951,7 @@ class TestAsk:
             (["rank 1,0,0,0,0,0\nrank 0,1,0,0,0,0"], "rank 1\nrank 2"),
             (["rank 1,0,0,0,0,0\n"], "rank 1\nerror bad-line"),
             (["\u00e9" * 200, "rank 1,0,0,0,0,0"], "error bad-line\nrank 1"),
+            (["\udcff", "rank 1,0,0,0,0,0", "\udcc3"], "error bad-line\nrank 1\nerror bad-line"),
             (["rank 1,0,0,0,0,0"] * 5000, "rank 1\n" * 4999 + "rank 1"),
             (["\u00e9" * 60000] * 6 + ["rank 1,0,0,0,0,0"], "error bad-line\n" * 6 + "rank 1"),
         ],
@@ -967,21 +961,24 @@ class TestAsk:
 
     @pytest.mark.parametrize("file", ["eight", "board"])
     @pytest.mark.parametrize(
-        "words, output",
+        "words, output, hint",
         [
-            ([""], "error bad-line"),
-            (["rank", "1,0,0,0,0,0"], "error bad-line\nerror bad-line"),
-            ([" rank 1,0,0,0,0,0"], "error bad-line"),
-            (["rank 1,0,0,0,0,0\r\r"], "error bad-line"),
-            (["rank 0,0,0,0,0,9", "rank 16,0,0,0,0,0"], "error over-bound\nerror too-many"),
-            (["play 0,0,0,0,0,0 21"], "error finished"),
-            (["loss 1,0,0,0,0,0 21 1,0,0,0,0,0"], "error not-legal"),
-            (["--", "-x", "--help", "--"], "error bad-line\nerror bad-line\nerror bad-line"),
+            ([""], "error bad-line", FORMS),
+            (["rank"], "error bad-line", FORMS),
+            (["rank", "1,0,0,0,0,0"], "error bad-line\nerror bad-line", QUOTES),
+            (["rank 1,0,0", "0,0,0"], "error bad-line\nerror bad-line", FORMS),
+            ([" rank 1,0,0,0,0,0"], "error bad-line", FORMS),
+            (["rank 1,0,0,0,0,0\r\r"], "error bad-line", FORMS),
+            (["rank 0,0,0,0,0,9", "rank 16,0,0,0,0,0"], "error over-bound\nerror too-many", OVER),
+            (["\udcff", "rank 9,0,0,0,0,0"], "error bad-line\nerror over-bound", OVER),
+            (["play 0,0,0,0,0,0 21"], "error finished", FORMS),
+            (["loss 1,0,0,0,0,0 21 1,0,0,0,0,0"], "error not-legal", FORMS),
+            (["--", "-x", "--help", "--"], "error bad-line\n" * 2 + "error bad-line", QUOTES),
         ],
     )
-    def test_no_answer(self, files, ask, board, file, words, output):
+    def test_no_answer(self, files, ask, board, file, words, output, hint):
         shutil.copy(board(8), "board")
-        expect(ask(["ask", file, *words], THREE), 1, output, self.HINT)
+        expect(ask(["ask", file, *words], THREE), 1, output, hint)
 
     def test_words_behind_dashes(self, files, ask):
         shutil.copy("eight", "-x")
@@ -1171,9 +1168,15 @@ class TestBoards:
         expect(ask(words.format(full=full), THREE), status, "", f"bearoff: {error}")
         assert os.path.exists(full) and not os.path.isfile(full), "the device is gone"
 
-    @pytest.mark.parametrize("command", (*READERS, "upgrade"))
+    @pytest.mark.parametrize("command", ("query --cache 1", "upgrade"))
     def test_a_board_file_is_no_database(self, room, ask, whole, command):
         expect_refused(ask, command, str(whole), "header bad-version")
+
+    @pytest.mark.parametrize("command", ("check", "query", "audit"))
+    def test_a_board_file_that_is_not_asked_for(self, room, ask, whole, command):
+        asked = ask([command, "--board", whole], THREE)
+        assert asked.status == 0 and asked.output
+        expect(ask([command, whole], THREE), 0, asked.output.decode().rstrip("\n"))
 
     def test_a_file_that_is_cut(self, room, ask, whole):
         data = whole.read_bytes()

@@ -1,9 +1,10 @@
 """Each small source of refused_cases over the real crates. None may compile, and each has to be
-refused with the words of its file `expected`: a case that compiles, or that fails for another
+refused with the words that it expects: a case that compiles, or that fails for another
 reason, fails. (The gate of the kit can't hold these: it calls an edit that doesn't compile a bad
 edit.)"""
 
 import os
+import re
 import shutil
 
 import pytest
@@ -33,12 +34,12 @@ def test_there_are_cases():
 def test_refused(crates, case):
     assert shutil.which("rt"), "the Rattle kit's command rt is missing"
     folder, here = crates / "crates" / "refused_case", HERE / "refused_cases" / case
+    uses, expected = re.findall("// (?:uses|expected): (.*)", here.read_text(encoding="utf-8"))
     shutil.rmtree(folder, ignore_errors=True)
     os.makedirs(folder / "src")
-    shutil.copy(here / "source", folder / "src/lib.rt")
-    row = f"refused_case: {(here / 'uses').read_text(encoding='utf-8').strip()}\n"
+    shutil.copy(here, folder / "src/lib.rt")
+    row = f"refused_case: {uses}\n"
     (crates / "crates.txt").write_text((ROOT / "crates.txt").read_text(encoding="utf-8") + row)
     done = run("rt", "check", cwd=folder, timeout=1800)
-    expected = (here / "expected").read_text(encoding="utf-8").strip()
     is_so = done.status != 0 and expected in (done.output + done.errors).decode(errors="replace")
     expect_that(is_so, done, f"a refusal with the words '{expected}'")

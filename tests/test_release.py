@@ -9,11 +9,12 @@ import re
 import shutil
 import tarfile
 import time
+import zipfile
 from pathlib import Path
 
 import pytest
 
-from running import ROOT, code_blocks, expect, expect_that, need, run, succeed
+from running import ROOT, code_blocks, expect, need, run, succeed
 
 # a release compiles over the libraries that the prover reads
 pytestmark = [pytest.mark.proved, pytest.mark.xdist_group("prover")]
@@ -51,8 +52,7 @@ class Release:
     @staticmethod
     def make(folder, **more):
         environment = {**os.environ, **more}
-        done = run(ROOT / "packaging/release", folder, timeout=3600, env=environment)
-        expect_that(done.status == 0, done, "a release")
+        succeed(ROOT / "packaging/release", folder, timeout=3600, env=environment)
 
 
 @pytest.fixture(scope="module")
@@ -107,7 +107,7 @@ def test_the_version_of_the_archives_program(release):
 
 
 def test_the_files_of_the_archive(release):
-    listed = succeed(ROOT / "packaging/put_down", "--list").decode().splitlines()
+    listed = succeed(ROOT / "packaging/place", "--list").decode().splitlines()
     rust = ["rust/Cargo.toml", "rust/build.rs", "rust/src/lib.rs", "rust/tests/answers.rs"]
     reference = [f"reference/{name}.md" for name in ("clauses", "definitions", "edits", "lemmas")]
     for name in [*listed, "CHANGELOG.md", "PROVENANCE.md", *rust, *reference]:
@@ -238,5 +238,17 @@ class TestJavaScript:
         expect(run("node", "example.mjs"), 0, PRINTED)
 
 
-def test_a_release_has_the_page(release):
-    assert (release.one / "bearoff.html").stat().st_size > 0
+def test_licences_of_others(release):
+    """Each thing that is shipped has them; the program, into which it is linked, that of the C
+    library too."""
+    name = "THIRD-PARTY-LICENCES.txt"
+    ours = (ROOT / "packaging/third-party-licences.txt").read_bytes()
+    whole = (release.one / name).read_bytes()
+    assert whole.startswith(ours) and b"GNU LESSER GENERAL PUBLIC LICENSE" in whole
+    places = [release.unpacked / "usr/share/doc" / it / name for it in PACKAGES]
+    assert {it.read_bytes() for it in [release.tree / name, *places]} == {whole}
+    with zipfile.ZipFile(next(release.one.glob("*.whl"))) as wheel:
+        assert wheel.read(f"bearoff-{VERSION}.dist-info/licenses/{name}") == whole
+    with tarfile.open(release.javascript) as package:
+        assert package.extractfile(f"package/{name}").read() == ours
+    assert ours in (release.one / "bearoff.html").read_bytes()

@@ -2,12 +2,14 @@
 compiler warn of, and the example of its page, each by cargo without a network."""
 
 import os
+import re
 import shutil
 import struct
+from pathlib import Path
 
 import pytest
 
-from running import ROOT, code_blocks, coded_rows, expect, expect_that, need, run
+from running import ROOT, code_blocks, coded_rows, expect, expect_that, need, race_rows, run
 
 pytestmark = pytest.mark.xdist_group("rust")
 
@@ -27,9 +29,9 @@ def cargo(store, library):
         "RUSTDOCFLAGS": "-D warnings",
     }
 
-    def run_it(*words, cwd=folder):
-        command = ["cargo", *words, "--offline", "--quiet"]
-        return run(*command, cwd=cwd, env=environment, timeout=900)
+    def run_it(*words, cwd=folder, **more):
+        command = ["cargo", *words, "--offline"]
+        return run(*command, cwd=cwd, env={**environment, **more}, timeout=900)
 
     return run_it
 
@@ -47,10 +49,9 @@ def test_its_documentation(cargo):
     expect_that(done.status == 0, done, "documentation without a warning")
 
 
-def write_caller(room, lines):
+def write_caller(room, lines, crate=ROOT / "rust"):
     """Writes a crate that depends on it: what it uses, and behind an empty line what it does."""
     (room / "src").mkdir()
-    crate = (ROOT / "rust").as_posix()
     (room / "Cargo.toml").write_text(
         f'[package]\nname = "caller"\nversion = "0.1.0"\nedition = "2021"\n'
         f'[dependencies]\nbearoff = {{ path = "{crate}" }}\n'
@@ -69,23 +70,41 @@ def test_a_program_over_it(cargo, built, room, page):
     [example] = code_blocks(page, "rust")
     write_caller(room, example)
     shutil.copyfile(built(44), room / "race.db")
-    expect(cargo("run", cwd=room), 0, "6.083 rolls, 4/2 4/3\n")
+    expect(cargo("run", "--quiet", cwd=room), 0, "6.083 rolls, 4/2 4/3\n")
+
+
+def test_a_library_of_another_version(cargo, room):
+    """It is refused where the crate may call what it hasn't."""
+    own = (ROOT / "VERSION").read_text(encoding="utf-8").strip()
+    shutil.copytree(ROOT / "rust", "own", ignore=shutil.ignore_patterns("target", "Cargo.lock"))
+    write_caller(room, 'use bearoff::Database;\n\nprintln!("{:?}", Database::build(0));', "own")
+    for version, is_enough in (("1.0.1", False), ("1.1.0", False), ("0.9.9", False), (own, True)):
+        text = (ROOT / "rust/Cargo.toml").read_text(encoding="utf-8")
+        Path("own/Cargo.toml").write_text(text.replace(own, version, 1), encoding="utf-8")
+        done = cargo("run", "--quiet", cwd=room)
+        wanted = "Ok(Database" if is_enough else f'Err(OtherLibrary {{ version: "{own}" }})'
+        expect_that(done.output.decode().startswith(wanted), done, wanted)
+
+
+def test_a_missing_library(cargo, room):
+    done = cargo("check", BEAROFF_LIBRARY_DIR=str(room), CARGO_TARGET_DIR=str(room))
+    for words in (
+        f"{room}/libbearoff.a can't be read: No such file",
+        "set BEAROFF_LIBRARY_DIR to",
+    ):
+        expect_that(words in done.errors.decode(), done, f"'{words}'")
 
 
 NUMBERS = """
-use bearoff::{Database, Position, Whole};
+use bearoff::{Database, Position, Race, Whole};
 
 for (bound, step) in [(12, 1), (58, 97), (90, 97)] {
     let database = Database::build(bound)?;
-    let asked = std::fs::read_to_string("positions")?;
-    for position in asked.lines().step_by(step) {
-        let position = position.parse()?;
-        if let Ok(epc) = database.epc(position) {
-            let mean = database.mean(position)?;
-            for told in database.distribution(position)?.iter().chain([&mean, &epc.exact]) {
-                let (above, below) = (told.numerator(), told.denominator());
-                println!("{}/{} {:x} {:.3}", above, below, told.as_f64().to_bits(), told);
-            }
+    for position in database.positions()?.into_iter().step_by(step) {
+        let (mean, epc) = (database.mean(position)?, database.epc(position)?);
+        for told in database.distribution(position)?.iter().chain([&mean, &epc.exact]) {
+            let (above, below) = (told.numerator(), told.denominator());
+            println!("{}/{} {:x} {:.3}", above, below, f64::from(*told).to_bits(), told);
         }
     }
 }
@@ -99,7 +118,7 @@ for shift in 0..192 {
             let half = shift - 53;
             words[2 - half / 64] ^= 1 << (half % 64);
         }
-        println!("{}/1 {:x} -", Whole(words), Whole(words).as_f64().to_bits());
+        println!("{}/1 {:x} -", Whole(words), f64::from(Whole(words)).to_bits());
     }
 }
 let texts = std::fs::read("texts")?;
@@ -108,6 +127,23 @@ for text in texts.split(|byte| *byte == 0xff) {
         Ok(position) => println!("{}", position),
         Err(bearoff::Error::BadText) => println!("bad-text"),
         Err(bearoff::Error::Refused { status: 3 }) => println!("too-many"),
+        Err(error) => println!("{:?}", error),
+    }
+}
+let races = std::fs::read("races")?;
+for text in races.split(|byte| *byte == 0xff) {
+    match std::str::from_utf8(text)?.parse::<Race>() {
+        Ok(race) => {
+            let theirs = race.theirs.unwrap_or_default().points;
+            let dice = race.roll.map_or([0, 0], |roll| [roll.one, roll.other]);
+            let seat = race.on_roll.map_or(0, |player| 1 + player as u8);
+            let told = [u8::from(race.theirs.is_some()), dice[0], dice[1], seat];
+            let told = [&[0], &race.mine.points[..], &theirs, &told].concat();
+            let words: Vec<String> = told.iter().map(u8::to_string).collect();
+            println!("{}", words.join(" "));
+        }
+        Err(bearoff::Error::BadText) => println!("11 0"),
+        Err(bearoff::Error::NotARace { status, place }) => println!("{} {}", status, place),
         Err(error) => println!("{:?}", error),
     }
 }
@@ -127,24 +163,17 @@ def test_numbers_and_texts(cargo, room):
     """Each number is the nearest double, and with a precision what that is; each text is read as
     the library for C reads it, and each play as in the other languages."""
     write_caller(room, NUMBERS.lstrip())
-    counts = [
-        f"{one},{two},{three},{four},{five},{six}"
-        for one in range(16)
-        for two in range(16 - one)
-        for three in range(16 - one - two)
-        for four in range(16 - one - two - three)
-        for five in range(16 - one - two - three - four)
-        for six in range(16 - one - two - three - four - five)
-    ]
-    (room / "positions").write_text("\n".join(counts))
-    rows, plays = coded_rows("texts.txt", 2), coded_rows("plays.txt", 3)
+    rows, plays, races = coded_rows("texts.txt", 2), coded_rows("plays.txt", 3), race_rows()
     (room / "texts").write_bytes(b"\xff".join(text.encode() for _, _, text in rows))
+    (room / "races").write_bytes(b"\xff".join(text.encode() for text, _ in races))
     asked = (f"{at} {moves}".encode() for at, _, _, moves in plays)
     (room / "plays").write_bytes(b"\xff".join(asked))
-    done = cargo("run", "--release", cwd=room)
+    done = cargo("run", "--release", "--quiet", cwd=room)
     expect_that(done.status == 0, done, "status 0")
     lines = done.output.decode().splitlines()
-    wanted = [verdict for verdict, _, _ in rows] + [to for _, _, to, _ in plays]
+    wanted = [verdict for verdict, _, _ in rows]
+    wanted += [re.sub(r"^3 .$", "Refused { status: 3 }", told) for _, told in races]
+    wanted += [to for _, _, to, _ in plays]
     verdicts, lines = lines[-len(wanted) :], lines[: -len(wanted)]
     assert verdicts == wanted
     assert len(lines) > 20_000

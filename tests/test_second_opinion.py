@@ -3,7 +3,9 @@ have. Its theorems rest on no axiom; Coq runs its check over files that the prog
 checker that Coq extracts says of each file what the program says; what is planted, in a definition
 or in a file, is refused; and the page docs/second-opinion.md says so."""
 
+import concurrent.futures
 import itertools
+import os
 import re
 import shutil
 import subprocess
@@ -61,7 +63,7 @@ def test_the_page():
         lines_of(SOURCES / "Prelude.v", r"(?s)\(\*.*?\*\)"),
         lines_of(SOURCES / "translate.py", r'(?m)^ *#.*$|"""(?s:.*?)"""'),
     ]
-    rows = re.search(r"(?s)\n\| What is planted \| The lemma that fails \|\n(.*)", page)[1]
+    rows = re.search(r"(?s)\n\| Change \| Lemma that fails \|\n(.*)", page)[1]
     assert re.findall(r"(?m)^\| (.*) \| `(\w+)` \|$", rows) == [
         (what, lemma) for what, (_, _, _, lemma) in PLANTED_DEFINITIONS.items()
     ]
@@ -361,23 +363,96 @@ def test_planted_definitions(tmp_path, what):
     need_coq()
     name, old, new, lemma = PLANTED_DEFINITIONS[what]
     coq, ours = planted_in(tmp_path, f"{name}.antt", old, new)
-    (coq / "Specs.v").write_bytes(succeed(coq / "translate.py", ours))
+    assert failing(coq, succeed(coq / "translate.py", ours)) == lemma
+
+
+def failing(coq, specs):
+    """The lemma whose proof fails, of sources with this text of the definitions; None if none does."""
+    (coq / "Specs.v").write_bytes(specs)
     names = re.search(r"for name in ([^;]*);", (coq / "prove").read_text(encoding="utf-8"))[1]
     steps = [
         (each, how)
         for each in names.replace("\\", "").split()
-        for how in (["-vok", "-vos"] if each.startswith("Same") else ["-vos"])
+        for how in (["-vok", "-vos"] if each[:4] in ("Same", "Theo") else ["-vos"])
     ]
     for each, how in steps:
-        done = run("coqc", how, "-q", "-R", ".", "SecondOpinion", f"{each}.v", cwd=coq)
+        words = ("coqc", how, "-q", "-R", ".", "SecondOpinion", f"{each}.v")
+        done = run(*words, cwd=coq, timeout=900)
         if done.status:
-            break
-    place = re.search(rb'File "\./(\w+\.v)", line (\d+)', done.errors)
-    assert done.status == 1 and place, done
-    failed = (coq / place[1].decode("ascii")).read_text(encoding="utf-8")
-    above = "\n".join(failed.split("\n")[: int(place[2])])
-    names = re.findall(r"(?m)^(?:Lemma|Theorem) (\w+)", above)
-    assert names and names[-1] == lemma, done.errors.decode("utf-8")
+            place = re.search(rb'File "\./(\w+\.v)", line (\d+)', done.errors)
+            assert done.status == 1 and place, done
+            failed = (coq / place[1].decode("ascii")).read_text(encoding="utf-8")
+            above = "\n".join(failed.split("\n")[: int(place[2])])
+            return re.findall(r"(?m)^(?:Lemma|Theorem|Definition) (\w+)", above)[-1]
+    return None
+
+
+# what each value of a definition is turned to, by its type in Coq; a proposition to what it denies,
+# and to what always holds
+ONE = "{| Throw_first := one; Throw_second := one |}"
+TURNED = {
+    "nat": "S X", "bool": "negb X", "list nat": "1 :: X", "Board": "1 :: X", "Throw": ONE,
+    "list (list nat)": "[] :: X", "list (list Throw)": "[] :: X", "list Die": "one :: X",
+    "list Throw": f"{ONE} :: X", "Strategy": "turn (fun _ => finished) (fun _ => X)",
+    "Version": "match X with full => compact | compact => full end",
+    "Layout": "{| Layout_number := S (Layout_number X); Layout_greatest := Layout_greatest X;"
+    " Layout_stated := Layout_stated X; Layout_place := Layout_place X |}",
+    "Parts": "{| Parts_upper := S (Parts_upper X); Parts_lower := Parts_lower X |}",
+    "Book": "{| Book_further := S (Book_further X); Book_bound := Book_bound X; Book_means :="
+    " Book_means X; Book_plays := Book_plays X; Book_shares := Book_shares X |}",
+    "Kind": "{| Kind_layout := Kind_layout X; Kind_written := fun _ _ => False; Kind_book :="
+    " Kind_book X |}",
+}  # fmt: skip
+
+
+def turned(specs):
+    """Coq's text of the definitions with one of them turned: a value, a field or a premise."""
+    blocks = re.split(r"(?m)^(?=Definition|Fixpoint|Inductive|Record|\(\*\*)", specs)
+    for i, block in enumerate(blocks):
+        whole = lambda new: "".join([*blocks[:i], new, *blocks[i + 1 :]])
+        head = re.match(
+            r"(?:Definition|Fixpoint) (\w+)((?: \(.*?\))*)(?: \{.*?\})? : (.*) :=\n", block
+        )
+        if head and head[3] != "Set":
+            name, given, kind = head.groups()
+            value = f"({name}_own {' '.join(re.findall(r' .(' + chr(92) + r'w+) :', given))})"
+            *arguments, result = kind.split(" -> ")
+            names = " ".join(f"z{k}" for k, _ in enumerate(arguments))
+            value = f"({value} {names})"
+            for new in ["~ X", "True"] if result == "Prop" else [TURNED[result]]:
+                new = f"fun {names} => {new}" if names else new
+                yield name, whole(
+                    re.sub(rf"\b{name}\b", f"{name}_own", block)
+                    + f"Definition {name}{given} : {kind} := {new.replace('X', value)}.\n"
+                )
+        elif re.match(r"Record \w+.* : Prop :=|Inductive .* : Prop :=", block):
+            row = r"(?m)^(?:  |\| )(\w+) : (.*?)( \}\.|;|\.|)$"
+            for found in re.finditer(row, block):
+                parts = re.split(r" -> (?![^()]*\))", found[2])
+                for k in range(len(parts) - (block[0] == "I")):
+                    new = " -> ".join([*parts[:k], "True", *parts[k + 1 :]])
+                    new = "True" if block[0] == "R" else new
+                    yield found[1], whole(block[: found.start(2)] + new + block[found.end(2) :])
+
+
+@pytest.mark.by_hand
+def test_each_definition(tmp_path):
+    """Each of the definitions is turned, and a proof fails."""
+    need_coq()
+    specs = succeed(SOURCES / "translate.py", SPECS).decode("utf-8")
+    found = list(turned(specs))
+    assert len({name for name, _ in found}) > 130
+
+    def lemma(row):
+        coq = tmp_path / f"{row}"
+        shutil.copytree(SOURCES, coq)
+        failed = failing(coq, found[row][1].encode())
+        shutil.rmtree(coq)
+        return failed
+
+    with concurrent.futures.ThreadPoolExecutor(os.cpu_count()) as pool:
+        failed = pool.map(lemma, range(len(found)))
+        assert not [name for (name, _), it in zip(found, failed) if it is None]
 
 
 # what the script can't read: the file, what stands there once, what stands there then, and what
@@ -389,6 +464,7 @@ UNREAD = {
     "a word by another name": ("Plays", "{Die, number,", "{Die, weight as number,", "weight as number"),
     "a field": ("BoardFiles", "{ number = 3;", "{ numeral = 3;", "numeral"),
     "a choice": ("Horizon", "most_rolls zero = 0", "most_rolls zero = case 0", "case 0"),
+    "an arrow": ("Strategies", "s ≡ t)", "s ≡ (((t)))) → Unit {0}", "(((t)))) → True"),
 }  # fmt: skip
 
 

@@ -3,7 +3,7 @@ with its answer or with a named fault, and never by a signal, and a file that it
 the whole new one, or else the old one; a database that is built straight into its file may stand
 there in part. In the gate the address space goes by steps of 4 KB through 600 KB above and below
 the least with which a command is done, which is found first; over 8 pips it goes on down to the
-least with which the system starts the program, and sizes up to 4,048 KB are tried twice, since the
+least with which the system starts the program, and sizes up to 4,128 KB are tried twice, since the
 system puts the stack at another place each time. By hand (--by-hand) it goes from 40 MB in steps
 of 64 KB too, also over 44 and 58 pips, which takes half an hour. The environment lies on the stack
 too, so there is none."""
@@ -25,6 +25,8 @@ pytestmark = pytest.mark.xdist_group("alone")
 
 LINES = "mean 0,0,0,0,0,1\nmoves 0,0,0,2,0,0 21\nplay 0,0,0,2,0,0 21"
 FAULT = re.compile(rb"bearoff: (memory|open|file|write)\n")
+# without arguments no file is opened, and the memory for the database is taken before it is built
+FAULT_IN_MEMORY = re.compile(rb"bearoff: memory\n")
 
 # what the system's loader says where it has no room for itself or for the C library
 UNLOADED = re.compile(rb"annot|failed to map segment")
@@ -33,7 +35,7 @@ UNLOADED = re.compile(rb"annot|failed to map segment")
 # it says by the status 127; the least with which the program is promised to be done over 8 pips
 # (docs/using.md); from where on the steps are small, and what is begun with; and the least stack
 # that is promised
-FLOOR, LEAST, LOW, MOST, LEAST_STACK = 2924, 4016, 4048, 40960, 1024
+FLOOR, LEAST, LOW, MOST, LEAST_STACK = 2924, 4096, 4128, 40960, 1024
 
 STEP, AROUND = 4, 600
 SMALL_STEPS = [size for size in range(LOW, FLOOR - STEP, -STEP) for _ in range(2)]
@@ -55,6 +57,7 @@ for bound in (8, 20, 44, 58):
             f"db_{bound}",
         ]
     COMMANDS[f"ask of {bound} pips"] = ["ask", f"db_{bound}", "mean 0,0,0,0,0,1"]
+    COMMANDS[f"show of {bound} pips"] = ["show", f"db_{bound}", "0,0,0,0,0,1"]
     COMMANDS[f"about of {bound} pips"] = ["about", f"db_{bound}"]
     COMMANDS[f"audit of {bound} pips"] = ["audit", f"db_{bound}"]
 for bound in (8, 20, 44):
@@ -62,19 +65,22 @@ for bound in (8, 20, 44):
     COMMANDS[f"upgrade of {bound} pips straight"] = ["upgrade", f"db_{bound}", "closed/made"]
 COMMANDS["build of the whole board"] = ["build", "--board", "made"]
 COMMANDS["build of the whole board straight"] = ["build", "--board", "closed/made"]
+COMMANDS["show over the whole board"] = ["show", "0,0,0,0,0,1"]
 for bound in (8, 20, 90):
     for command in ("check", "query", "audit"):
         words = [command, "--board", f"board_{bound}"]
         COMMANDS[f"{command} of a board file of {bound} pips"] = words
     words = ["ask", f"board_{bound}", "mean 0,0,0,0,0,1"]
     COMMANDS[f"ask of a board file of {bound} pips"] = words
+    COMMANDS[f"show of a board file of {bound} pips"] = ["show", f"board_{bound}", "0,0,0,0,0,1"]
     COMMANDS[f"about of a board file of {bound} pips"] = ["about", f"board_{bound}"]
 
 # what docs/using.md promises with the least address space
 PROMISED = (
     "no words",
     "help",
-    *(f"{it} of 8 pips" for it in ("build", "check", "query", "ask", "about", "audit")),
+    *(f"{it} of 8 pips" for it in ("build", "check", "query", "ask", "show", "about")),
+    *(f"{it} of 8 pips" for it in ("audit", "upgrade")),
     *(f"query of {it} pips by pages of 100 records" for it in (8, 44)),
 )
 
@@ -159,7 +165,8 @@ def outcome(starved, size, words, ample, limit="as"):
         return f"leaves {', '.join(left)}"
     if (got.status, got.output, got.errors, stands) == (0, whole.output, b"", wanted):
         return "done"
-    if got.status == 1 and FAULT.fullmatch(got.errors) and whole.output.startswith(got.output):
+    fault = FAULT if words else FAULT_IN_MEMORY
+    if got.status == 1 and fault.fullmatch(got.errors) and whole.output.startswith(got.output):
         if is_old:
             return "named"
         return f"leaves {len(stands)} bytes in the file\n{told(got)}"
@@ -225,10 +232,11 @@ def test_memory_about_the_least(starved, name, note):
     starve(starved, name, sizes, note)
 
 
+@pytest.mark.parametrize("step", [1536, pytest.param(256, marks=pytest.mark.gate)])
 @pytest.mark.parametrize("name", STRAIGHT)
-def test_little_memory_for_a_large_file(starved, name, note):
+def test_little_memory_for_a_large_file(starved, name, step, note):
     """Such a file is emptied once all memory was taken."""
-    starve(starved, name, range(6 << 10, 18 << 10, 256), note)
+    starve(starved, name, range(6 << 10, 18 << 10, step), note)
 
 
 @pytest.mark.parametrize("name", LOW_COMMANDS)

@@ -3,11 +3,11 @@ packages: ask_gnubg.py FILE.
 
 The file is JSON. `races` are a thousand random pairs of home boards, each with both players on
 roll, with and without dice: the IDs that GNU Backgammon writes of them, and an XGID. `changed` are
-such texts with one character changed, and `forms` texts of other forms. What stands beside a text
-under `says` is what GNU Backgammon read there: the 25 counts of the player on roll and of the
-other one, point 1 first and the bar last, the dice, and the player on roll, 1 at the bottom and 0
-at the top; or null where it refused the text. It prints no XGIDs: these are put together here, and
-read by it.
+such texts with one character changed, except where they say what game it is, which the packages
+don't ask, and `forms` texts of other forms. What stands beside a text under `says` is what GNU
+Backgammon read there: the 25 counts of the player on roll and of the other one, point 1 first and
+the bar last, the dice, and the player on roll, 1 at the bottom and 0 at the top; or null where it
+refused the text. It prints no XGIDs: these are put together here, and read by it.
 
 It ends with status 3 where there is no GNU Backgammon. All is asked in one process of it, which
 runs this script too.
@@ -22,6 +22,9 @@ import tempfile
 
 PAIRS = 1000
 SAMPLE = 40
+# where an XGID has Crawford and Jacoby, and IDs the cube, who is to move, the state and the match
+RULE = -6
+GAME = (15, 16, 17, 19, 20, 21)
 LETTERS = "ABCDEFGHIJKLMNOPQRSTUVWXYZabcdefghijklmnopqrstuvwxyz0123456789+/-:="
 # the first position of a game, which is no race: a text that changes nothing was refused
 START = "4HPwATDgc/ABMA:cAkAAAAAAAAE"
@@ -43,9 +46,9 @@ def xgid(mine, theirs, dice, is_bottom):
     return f"XGID={board}:0:0:{'1' if is_bottom else '-1'}:{dice[0]}{dice[1]}:0:0:0:0:10"
 
 
-def changed_once(chance, texts, times):
+def changed_once(chance, texts, times, kept):
     for text in texts:
-        for place in range(len(text)):
+        for place in sorted({*range(len(text))} - {it % len(text) for it in kept}):
             for _ in range(times):
                 letter = chance.choice([letter for letter in LETTERS if letter != text[place]])
                 yield text[:place] + letter + text[place + 1 :]
@@ -135,7 +138,7 @@ def ask(file):
                 texts.append((race["xgid"], f"{race['position']}:{race['match']}"))
     sample = chance.sample(texts, SAMPLE)
     xgids, ids = zip(*sample)
-    changed = [*changed_once(chance, xgids, 1), *changed_once(chance, ids, 2)]
+    changed = [*changed_once(chance, xgids, 1, [RULE]), *changed_once(chance, ids, 2, GAME)]
     told = {
         "races": races,
         "changed": [{"text": text, "says": read(text)} for text in changed],

@@ -38,6 +38,12 @@ static void expect_same(const void *one, const void *other, size_t size, const c
     expect(!memcmp(one, other, size), what, number);
 }
 
+/* a double of what is so many thousandths, rounded */
+static void expect_near(double number, uint64_t thousandths, const char *what, long at) {
+    double off = number * 1000 - (double)thousandths;
+    expect(off < 0.501 && off > -0.501, what, at);
+}
+
 static bearoff_number sum_of(bearoff_number one, bearoff_number other) {
     bearoff_number sum = {{0}};
     uint64_t carry = 0;
@@ -90,8 +96,14 @@ static void ask_numbers(const bearoff_position *at, long rank) {
     part.numerator = mean;
     expect(bearoff_thousandths(&part, &told) && told == rolls.thousandths,
            "the mean over the whole", rank);
-    double near = bearoff_as_double(&file, mean) * 1000 - (double)rolls.thousandths;
-    expect(near < 0.501 && near > -0.501, "the mean as a double", rank);
+    double near = bearoff_fraction_as_double(rolls.exact) / bearoff_as_double(&file, mean);
+    expect(rank == 0 || (near > 1 - 1e-14 && near < 1 + 1e-14), "the mean as a double", rank);
+    expect_near(bearoff_as_double(&file, mean), rolls.thousandths, "the mean as a double", rank);
+    expect_near(bearoff_fraction_as_double(epc.exact), epc.thousandths, "as a double", rank);
+    double gap = bearoff_variance(&file, &shares);
+    for (int k = 0; k < 34; k++) gap -= k * k * bearoff_as_double(&file, shares.shares[k]);
+    gap += bearoff_as_double(&file, mean) * bearoff_as_double(&file, mean);
+    expect(gap > -1e-12 && gap < 1e-12, "the variance", rank);
     for (int k = 0; k < 36; k++) {
         if (k < 34) sum = sum_of(sum, shares.shares[k]);
         part.numerator = sum;
@@ -125,6 +137,7 @@ static void ask_roll(const bearoff_position *at, uint8_t one, uint8_t other, lon
     bearoff_recorded_play play, first;
     bearoff_fraction loss;
     size_t count = 0, less = 0;
+    uint64_t told = 0;
     memset(&play, 0, sizeof play);
     memset(&first, 0, sizeof first);
     uint32_t status = bearoff_play(&file, at, one, other, &play);
@@ -138,7 +151,8 @@ static void ask_roll(const bearoff_position *at, uint8_t one, uint8_t other, lon
            "the first play to the recorded position", rank);
     expect(bearoff_moves(&file, at, one, other, results, BEAROFF_RESULTS, &count) == BEAROFF_OK,
            "moves", rank);
-    expect(bearoff_moves(&file, at, one, other, results, count - 1, &less) == BEAROFF_SHORT &&
+    expect(bearoff_moves(&file, at, one, other, results, count - 1, &less) ==
+                   BEAROFF_BUFFER_TOO_SMALL &&
                less == count,
            "moves without room", rank);
     snprintf(line, sizeof line, "moves %d,%d,%d,%d,%d,%d %d%d", on[0], on[1], on[2], on[3], on[4],
@@ -149,6 +163,8 @@ static void ask_roll(const bearoff_position *at, uint8_t one, uint8_t other, lon
         expect(bearoff_loss(&file, at, one, other, &results[i].to, &loss) == BEAROFF_OK, "loss",
                rank);
         expect_same(&results[i].loss, &loss, sizeof loss, "the loss of one", rank);
+        expect(bearoff_thousandths(&loss, &told), "a loss in thousandths", rank);
+        expect_near(bearoff_fraction_as_double(loss), told, "a loss as a double", rank);
         /* in the order of the line */
         snprintf(place, sizeof place, " %d,%d,%d,%d,%d,%d:", to[0], to[1], to[2], to[3], to[4],
                  to[5]);

@@ -2,7 +2,7 @@
  * The rooms that the header names are enough for every position and roll of a database:
  * BEAROFF_RESULTS for the results, and BEAROFF_REPLY for the reply to a line.
  *
- * usage: largest FILE       a right database
+ * usage: largest FILE STEP       a right database, and of its ranks each STEPth from 1 on
  *
  * Each list of results that is longer than 64 is asked for again, and so is its line: with a room
  * of the header's size, of one less, of exactly what was told, and of one less than that, which is
@@ -53,8 +53,8 @@ static size_t list(bearoff_position at, uint8_t one, uint8_t other, size_t room,
     bearoff_result *results = (bearoff_result *)lend(result_block, size);
     uint32_t status = bearoff_moves(&database, &at, one, other, results, room, &count);
     int fits = count <= room;
-    expect(status == (fits ? BEAROFF_OK : BEAROFF_SHORT), "the status of the results", rank,
-           (long)room);
+    expect(status == (fits ? BEAROFF_OK : BEAROFF_BUFFER_TOO_SMALL), "the status of the results",
+           rank, (long)room);
     expect(count == wanted || !wanted, "how many results", rank, (long)count);
     expect(kept(result_block, size, fits ? count * sizeof(bearoff_result) : 0),
            "beside the results", rank, (long)room);
@@ -68,7 +68,7 @@ static size_t answer(const char *line, size_t room, size_t wanted, long rank) {
     uint32_t status =
         bearoff_answer_line(&database, (const uint8_t *)line, strlen(line), text, room, &needed);
     int fits = needed <= room;
-    expect(status == (fits ? BEAROFF_OK : BEAROFF_SHORT), line, rank, (long)room);
+    expect(status == (fits ? BEAROFF_OK : BEAROFF_BUFFER_TOO_SMALL), line, rank, (long)room);
     expect(needed == wanted || !wanted, line, rank, (long)needed);
     expect(kept(text_block, room, fits ? needed : 0), "beside the reply", rank, (long)room);
     return needed;
@@ -90,8 +90,9 @@ static void try_rooms(bearoff_position at, uint8_t one, uint8_t other, size_t co
 }
 
 int main(int count, char **words) {
-    FILE *file = count == 2 ? fopen(words[1], "rb") : 0;
-    if (!file) return 2;
+    FILE *file = count == 3 ? fopen(words[1], "rb") : 0;
+    uint32_t step = file ? (uint32_t)atoi(words[2]) : 0;
+    if (step < 1) return 2;
     size_t length = fread(bytes, 1, sizeof bytes, file), needed;
     uint8_t line[BEAROFF_LINE];
     fclose(file);
@@ -99,7 +100,7 @@ int main(int count, char **words) {
     bearoff_facts about;
     if (bearoff_about(&database, &about)) return 2;
     /* the finished position, of rank 0, has no play */
-    for (uint32_t rank = 1; rank < about.positions; rank++) {
+    for (uint32_t rank = 1; rank < about.positions; rank += step) {
         bearoff_position at;
         if (bearoff_position_of(&database, (uint16_t)rank, &at)) return 2;
         for (uint8_t one = 1; one <= 6; one++) {

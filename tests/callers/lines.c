@@ -189,8 +189,8 @@ static int same_position(bearoff_position one, bearoff_position other) {
 /* the mean of a position as a fraction and rounded, and where it stands */
 static void check_mean(const bearoff_file *database, bearoff_position at, bearoff_number mean) {
     bearoff_rounded rolls;
-    bearoff_stand stand;
-    if (bearoff_rounded_mean(database, &at, &rolls) || bearoff_standing(&at, &stand))
+    bearoff_info stand;
+    if (bearoff_rounded_mean(database, &at, &rolls) || bearoff_position_info(&at, &stand))
         fail("a mean that is told once is not told again");
     bearoff_fraction exact = over_whole(mean);
     if (!same_number(rolls.exact.numerator, exact.numerator) ||
@@ -333,7 +333,7 @@ static void answer_line(const bearoff_file *database, const char *line, size_t l
     size_t needed = 0, told = 0;
     uint32_t status =
         bearoff_answer_line(database, (const uint8_t *)line, length, &mark, 0, &needed);
-    if (status != BEAROFF_SHORT || !needed || needed > BEAROFF_REPLY || mark != 0xA5)
+    if (status != BEAROFF_BUFFER_TOO_SMALL || !needed || needed > BEAROFF_REPLY || mark != 0xA5)
         fail("a line without room");
     while (reply->room - reply->length < needed + 1) {
         reply->room = 2 * reply->room + needed + 1;

@@ -60,7 +60,7 @@ static void ask_file(const char *call, const bearoff_file *asked, bearoff_positi
     } else if (!strcmp(call, "play")) {
         uint32_t listed = bearoff_moves(asked, &at, one, other, &result, 0, &count);
         tell(bearoff_play(asked, &at, one, other, &play));
-        if (listed != BEAROFF_SHORT) tell(listed);
+        if (listed != BEAROFF_BUFFER_TOO_SMALL) tell(listed);
     } else if (!strcmp(call, "loss")) {
         tell(bearoff_loss(asked, &at, one, other, &to, &loss));
     } else if (!strcmp(call, "play-to")) {

@@ -39,7 +39,7 @@ enum { MOST_ROOM = 1 << 15, BOARD_VERSION = 3, DATABASE_REPLY = 12070 };
  * by the records */
 #define BIT(name) (1u << BEAROFF_##name)
 static const uint32_t told_or_changed = BIT(OK) | BIT(CHANGED),
-                      any_length = BIT(OK) | BIT(CHANGED) | BIT(SHORT),
+                      any_length = BIT(OK) | BIT(CHANGED) | BIT(BUFFER_TOO_SMALL),
                       header_faults = BIT(TOO_SHORT) | BIT(BAD_MAGIC) | BIT(BAD_VERSION) |
                                       BIT(BAD_BOUND) | BIT(BAD_COUNT) | BIT(BAD_RECORD_BYTES) |
                                       BIT(BAD_RESERVED) | BIT(BAD_LENGTH),
@@ -191,7 +191,7 @@ static uint32_t take(uint32_t status, uint32_t allowed) {
     if (is_counted) {
         memcpy(&count, told.lent, sizeof count);
         if (written) written = less(count, answer.length / element) * element;
-        if (!is_kept(&told) || (status != BEAROFF_OK && status != BEAROFF_SHORT &&
+        if (!is_kept(&told) || (status != BEAROFF_OK && status != BEAROFF_BUFFER_TOO_SMALL &&
                                 !is_marked(told.lent, told.length)))
             fail(&writes, "wrote beside its count, or into it", status);
     }
@@ -219,8 +219,8 @@ static uint32_t take(uint32_t status, uint32_t allowed) {
 
 /* how many there are: no more than any have, and the room that was lent is short for no fewer */
 static size_t take_count(uint32_t status, size_t count, size_t most, size_t lent) {
-    if (status != BEAROFF_OK && status != BEAROFF_SHORT) return 0;
-    if ((status == BEAROFF_SHORT) != (count > lent) || count > most)
+    if (status != BEAROFF_OK && status != BEAROFF_BUFFER_TOO_SMALL) return 0;
+    if ((status == BEAROFF_BUFFER_TOO_SMALL) != (count > lent) || count > most)
         fail(&statuses, "so many", count);
     return count;
 }
@@ -243,8 +243,8 @@ static void ask_line(const question *asked, const char *text, uint32_t others) {
     size_t needed = answer_line(asked->room * 60, others);
     if (needed && asked->is_exact) {
         answer_line(needed, BIT(OK));
-        answer_line(needed - 1, BIT(SHORT));
-        answer_line(0, BIT(SHORT));
+        answer_line(needed - 1, BIT(BUFFER_TOO_SMALL));
+        answer_line(0, BIT(BUFFER_TOO_SMALL));
     }
     now = "a line";
     if (!is_kept(&line_room) || memcmp(line_room.lent, text, size)) fail(&writes, text, size);
@@ -263,7 +263,7 @@ static void ask_lines(const question *asked) {
         if (i > 4)
             snprintf(text + size, sizeof text - (size_t)size, " %d,%d,%d,%d,%d,%d", to[0], to[1],
                      to[2], to[3], to[4], to[5]);
-        ask_line(asked, text, i == 2 ? BIT(OK) | BIT(SHORT) : any_length);
+        ask_line(asked, text, i == 2 ? BIT(OK) | BIT(BUFFER_TOO_SMALL) : any_length);
     }
 }
 
@@ -284,8 +284,8 @@ static void ask_moves(const question *asked) {
     size_t count = list_moves(asked, asked->room, any_length);
     if (count && asked->is_exact) {
         list_moves(asked, count, BIT(OK));
-        list_moves(asked, count - 1, BIT(SHORT));
-        list_moves(asked, 0, BIT(SHORT));
+        list_moves(asked, count - 1, BIT(BUFFER_TOO_SMALL));
+        list_moves(asked, 0, BIT(BUFFER_TOO_SMALL));
     }
 }
 

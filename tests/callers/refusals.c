@@ -123,8 +123,8 @@ static void lead(bearoff_position at, uint8_t one, uint8_t other, bearoff_positi
 }
 
 static void stand(bearoff_position at, uint32_t wanted, const char *what) {
-    bearoff_stand *standing = (bearoff_stand *)guarded(sizeof *standing);
-    expect(bearoff_standing(&at, standing) == wanted, what, 1);
+    bearoff_info *standing = (bearoff_info *)guarded(sizeof *standing);
+    expect(bearoff_position_info(&at, standing) == wanted, what, 1);
     expect(
         wanted ? untouched(standing, sizeof *standing) : guards_stand(standing, sizeof *standing),
         what, 2);
@@ -216,7 +216,8 @@ static uint32_t answer_with(const bearoff_file *database, const char *line, size
     uint32_t status =
         bearoff_answer_line(database, (const uint8_t *)line, strlen(line), buffer, room, needed);
     if (reply) {
-        expect(status == (strlen(reply) <= room ? BEAROFF_OK : BEAROFF_SHORT), what, status);
+        expect(status == (strlen(reply) <= room ? BEAROFF_OK : BEAROFF_BUFFER_TOO_SMALL), what,
+               status);
         take_text(buffer, room, needed, reply, what);
     } else {
         expect(untouched(buffer, room) && untouched(needed, sizeof *needed), what, (long)room);
@@ -232,7 +233,8 @@ static void say(uint32_t status, const char *wanted) {
         uint8_t *buffer = guarded(room);
         size_t *needed = (size_t *)guarded(sizeof *needed);
         uint32_t told = bearoff_status_text(status, buffer, room, needed);
-        expect(told == (strlen(wanted) <= room ? BEAROFF_OK : BEAROFF_SHORT), wanted, (long)room);
+        expect(told == (strlen(wanted) <= room ? BEAROFF_OK : BEAROFF_BUFFER_TOO_SMALL), wanted,
+               (long)room);
         take_text(buffer, room, needed, wanted, wanted);
     }
 }
@@ -241,8 +243,10 @@ static void say(uint32_t status, const char *wanted) {
  * is BEAROFF_OK */
 static uint32_t read_counts(const char *text, size_t length, bearoff_position *position) {
     unsigned counts[6] = {0, 0, 0, 0, 0, 0}, sum = 0;
-    size_t point = 0, digits = 0;
-    for (size_t i = 0; i < length; i++) {
+    size_t point = 0, digits = 0, i = 0;
+    while (length && memchr(" \t\n\f\r", text[length - 1], 5)) length--;
+    while (i < length && memchr(" \t\n\f\r", text[i], 5)) i++;
+    for (; i < length; i++) {
         if (text[i] == ',') {
             if (!digits || ++point > 5) return BEAROFF_BAD_TEXT;
             digits = 0;
@@ -261,17 +265,18 @@ static uint32_t read_counts(const char *text, size_t length, bearoff_position *p
 
 /* reads a text, which lies in a block of exactly its length; the status */
 static uint32_t read_text(const char *text, size_t length) {
-    uint8_t *bytes = (uint8_t *)malloc(length ? length : 1);
-    bearoff_position *position = (bearoff_position *)guarded(sizeof *position), wanted;
+    uint8_t *bytes = (uint8_t *)malloc(length ? length : 1), place = 255;
+    bearoff_race *race = (bearoff_race *)guarded(sizeof *race), wanted;
     if (!bytes) exit(1);
     memcpy(bytes, text, length);
-    uint32_t status = bearoff_parse_position(bytes, length, position);
-    expect(status == read_counts(text, length, &wanted), text, (long)length);
-    expect(
-        status ? untouched(position, sizeof *position) : !memcmp(position, &wanted, sizeof wanted),
-        text, -1);
-    expect(guards_stand(position, sizeof *position) && !memcmp(bytes, text, length), text, -2);
-    let_go(position);
+    memset(&wanted, 0, sizeof wanted);
+    uint32_t status = bearoff_read_position(bytes, length, race, &place);
+    expect(status == read_counts(text, length, &wanted.mine), text, (long)length);
+    expect(status ? untouched(race, sizeof *race) : !memcmp(race, &wanted, sizeof wanted), text,
+           -1);
+    expect(guards_stand(race, sizeof *race) && !memcmp(bytes, text, length), text, -2);
+    expect(place == (status == BEAROFF_TOO_MANY), text, -3);
+    let_go(race);
     free(bytes);
     return status;
 }
@@ -323,33 +328,38 @@ int main(int count, char **words) {
         const char *text;
     } said[] = {
         {BEAROFF_OK, "success"},
-        {BEAROFF_NOT_OPEN, "the file was never opened, or its bytes were refused"},
+        {BEAROFF_NOT_OPEN, "the file is not open"},
         {BEAROFF_BAD_ROLL, "a die is not 1 to 6"},
         {BEAROFF_TOO_MANY, "a position has more than 15 checkers"},
-        {BEAROFF_OVER_BOUND, "more pips than the bound, or a bound over the greatest"},
-        {BEAROFF_FINISHED, "a play is asked for and no checker is left"},
+        {BEAROFF_OVER_BOUND, "the pips exceed the bound, or the bound exceeds the limit"},
+        {BEAROFF_FINISHED, "no checker is left to move"},
         {BEAROFF_NOT_LEGAL, "the roll doesn't lead to that position"},
-        {BEAROFF_CHANGED, "the bytes were changed since they were checked"},
-        {BEAROFF_SHORT, "the room that was lent is too small"},
-        {BEAROFF_NOT_OLD, "the file that is to be upgraded is of version 2 already"},
-        {BEAROFF_NO_RANK, "there is no position of that rank, or there are fewer than asked"},
-        {BEAROFF_BAD_TEXT, "the text is not six counts with commas between them"},
+        {BEAROFF_CHANGED, "the bytes changed since they were verified"},
+        {BEAROFF_BUFFER_TOO_SMALL, "the buffer is too small"},
+        {BEAROFF_NOT_OLD, "the file to upgrade already has version 2"},
+        {BEAROFF_NO_RANK, "no position has that rank, or the range is too long"},
+        {BEAROFF_BAD_TEXT, "the text is not a position"},
         {BEAROFF_TOO_SHORT, "fewer than 32 bytes"},
         {BEAROFF_BAD_MAGIC, "the bytes don't begin with EPCTABLE"},
         {BEAROFF_BAD_VERSION, "the version is not 1 or 2, or that of a board file not 3"},
-        {BEAROFF_BAD_BOUND, "the bound is over its version's greatest, 44, 58 or 90"},
-        {BEAROFF_BAD_COUNT, "the count isn't that of the bound"},
-        {BEAROFF_BAD_RECORD_BYTES, "the field for record bytes is not its version's, 426 or 0"},
+        {BEAROFF_BAD_BOUND, "the bound exceeds its version's limit of 44, 58 or 90"},
+        {BEAROFF_BAD_COUNT, "the count doesn't match the bound"},
+        {BEAROFF_BAD_RECORD_BYTES, "the record size doesn't match the version, 426 or 0"},
         {BEAROFF_BAD_RESERVED, "a reserved byte is not zero"},
         {BEAROFF_BAD_LENGTH, "more or fewer bytes than the header says"},
         {BEAROFF_BAD_PLAY, "a recorded play is not legal"},
         {BEAROFF_NOT_LEAST, "a recorded play doesn't reach the least mean"},
         {BEAROFF_BAD_MEAN, "a recorded mean is not that of the recorded plays"},
         {BEAROFF_BAD_SPREAD, "a share or count is not that of the recorded plays"},
-        {28, "the bytes were changed while they were read"},
+        {28, "the bytes changed while they were read"},
+        {BEAROFF_SAME_POINT, "both players have a checker on one point"},
+        {BEAROFF_ON_BAR, "a checker is on the bar"},
+        {BEAROFF_OUTSIDE, "the player on roll has a checker outside the home board"},
+        {BEAROFF_CONTACT, "an opponent's checker is behind one of the player on roll"},
+        {BEAROFF_OTHER_OUTSIDE, "the opponent has a checker outside the home board"},
     };
     static const uint32_t unknown[] = {
-        12,  13,  14,  15,  29,  30,    31,    32,          255,         256,
+        12,  13,  14,  15,  29,  30,    31,    37,          255,         256,
         257, 260, 267, 284, 512, 65536, 65538, 0x80000000u, 0x80000010u, 0xFFFFFFFFu};
     bearoff_position none = {{0, 0, 0, 0, 0, 0}}, six = {{0, 0, 0, 0, 0, 1}},
                      five = {{0, 0, 0, 0, 1, 0}};
@@ -458,7 +468,10 @@ int main(int count, char **words) {
         say(unknown[i], "unknown status");
 
     /* texts of positions, and one with a zero behind it */
-    state_each("0,0,0,0,0,0|0,0,0,2,0,1|15,0,0,0,0,0|0,0,0,0,0,15|1,2,3,4,5,0", BEAROFF_OK);
+    state_each(
+        "0,0,0,0,0,0|0,0,0,2,0,1|15,0,0,0,0,0|0,0,0,0,0,15|1,2,3,4,5,0|"
+        " 0,0,0,0,0,1|0,0,0,0,0,1 |0,0,0,0,0,1\r|0,0,0,0,0,1\012",
+        BEAROFF_OK);
     /* 256 is 0 in a byte, 271 is 15 there, and 128 twice is 256 in all */
     state_each(
         "16,0,0,0,0,0|0,0,0,0,0,16|1,2,3,4,5,1|255,0,0,0,0,0|256,0,0,0,0,0|0,0,0,0,0,271|"
@@ -468,8 +481,8 @@ int main(int count, char **words) {
     state_each(
         "|,|,,,,,|six|0,0,0,0,0|0,0,0,0,0,|,0,0,0,0,0|0,0,,0,0,0|0,0,0,0,0,0,|0,0,0,0,0,0,0|"
         "00,0,0,0,0,0|0,0,0,0,0,01|0,0,0,0,0,015|1000,0,0,0,0,0|65536,0,0,0,0,0|"
-        "0,0,0,0,0,4294967296| 0,0,0,0,0,1|0,0,0,0,0,1 |0, 0,0,0,0,1|0,0,0,0,0,1\r|"
-        "0,0,0,0,0,1\012|+0,0,0,0,0,1|0,0,0,0,0,-1|0,0,0,0,0,0x1|0;0;0;0;0;1|0,0,0,0,0,\xd9\xa1",
+        "0,0,0,0,0,4294967296|0, 0,0,0,0,1|+0,0,0,0,0,1|0,0,0,0,0,-1|0,0,0,0,0,0x1|0;0;0;0;0;1|"
+        "0,0,0,0,0,\xd9\xa1",
         BEAROFF_BAD_TEXT);
     state("0,0,0,0,0,1", 12, BEAROFF_BAD_TEXT);
     /* behind a byte order mark */
@@ -495,8 +508,8 @@ int main(int count, char **words) {
     for (size_t room = 0; room <= 3; room++) {
         bearoff_result *results = (bearoff_result *)guarded(room * sizeof *results);
         uint32_t status = bearoff_moves(database, &fours, 2, 1, results, room, told);
-        expect(status == (room < 2 ? BEAROFF_SHORT : BEAROFF_OK) && *told == 2, "results",
-               (long)room);
+        expect(status == (room < 2 ? BEAROFF_BUFFER_TOO_SMALL : BEAROFF_OK) && *told == 2,
+               "results", (long)room);
         expect(guards_stand(results, room * sizeof *results) && guards_stand(told, sizeof *told),
                "results", (long)room);
         if (room < 2)
@@ -550,7 +563,7 @@ int main(int count, char **words) {
         uint8_t *work = guarded(7696 - (lack & 1)), *room = guarded(7696 - (lack >> 1));
         uint32_t status = bearoff_upgrade(bytes, length, work, 7696 - (lack & 1), room,
                                           7696 - (lack >> 1), filled);
-        expect(status == (lack ? BEAROFF_SHORT : BEAROFF_OK), "upgrade", (long)lack);
+        expect(status == (lack ? BEAROFF_BUFFER_TOO_SMALL : BEAROFF_OK), "upgrade", (long)lack);
         expect(guards_stand(work, 7696 - (lack & 1)) && guards_stand(room, 7696 - (lack >> 1)),
                "upgrade", -1);
         expect(lack ? untouched(room, 7696 - (lack >> 1)) : *filled == 7696, "upgrade", -2);

@@ -4,10 +4,10 @@
  * room to work in, and for bearoff_upgrade and each bound of a file of version 1. What was built
  * is opened by bearoff_open, and a file with a wrong byte is refused, each of 3 pips among them.
  *
- * usage: rooms [STEP]       each bound, or each STEPth from the greatest down
+ * usage: rooms [STEP]       each bound, or each STEPth from the greatest down to 20
  *
- * Where a room is too small the status is BEAROFF_SHORT, and the room for the file and the count
- * stay as they were. All rooms stand between guards.
+ * Where a room is too small the status is BEAROFF_BUFFER_TOO_SMALL, and the room for the file and
+ * the count stay as they were. All rooms stand between guards.
  */
 #include <stdio.h>
 #include <stdlib.h>
@@ -69,9 +69,11 @@ static size_t try_rooms(int version, int bound, size_t old_length, uint8_t *file
                filled == size && !memcmp(room, file, size),
            "exactly enough", bound, (long)size);
     if (least)
-        expect(call_with(version, bound, old_length, size - 1, size, &filled) == BEAROFF_SHORT,
+        expect(call_with(version, bound, old_length, size - 1, size, &filled) ==
+                   BEAROFF_BUFFER_TOO_SMALL,
                "a work room too small", bound, (long)size);
-    expect(call_with(version, bound, old_length, size * least, size - 1, &filled) == BEAROFF_SHORT,
+    expect(call_with(version, bound, old_length, size * least, size - 1, &filled) ==
+               BEAROFF_BUFFER_TOO_SMALL,
            "a room too small", bound, (long)size);
     return size;
 }
@@ -97,7 +99,7 @@ static void try_openings(int bound, size_t size) {
 
 static void try_all(void) {
     size_t filled;
-    for (int bound = GREATEST; bound >= 0; bound -= step) {
+    for (int bound = GREATEST; bound >= 0; bound -= bound > 20 ? step : 1) {
         size_t size = try_rooms(bound > OLD_BOUND ? 2 : 1, bound, 0, built);
         if (bound == 58) expect(size == 15060844, "the size", bound, (long)size);
         if (bound == 44) expect(size == 11209796, "the size", bound, (long)size);

@@ -2,8 +2,8 @@
 
 usage: speed.py FILE             how many means a second it answers, one call each, over all
                                  positions in no order
-       speed.py FILE --tables    how many microseconds all means take as an array of numpy, and all
-                                 distributions, and both as floats
+       speed.py FILE --tables    how many microseconds all means take as words in numpy, and all
+                                 distributions, and both as floats by the weights
        speed.py FILE --ranks     how many ranks a second it finds for a million rows of an array of
                                  numpy, in no order, for bytes and for numbers of 64 bits
 """
@@ -40,11 +40,11 @@ def tables(database):
     import numpy
 
     for name, table in ("means", database.means), ("distributions", database.distributions):
-        print(name, int(1e6 * least(lambda: numpy.asarray(table()))), "us")
+        print(name, int(1e6 * least(lambda: numpy.asarray(table(words=True)))), "us")
         print(
             name,
             "as floats",
-            int(1e6 * least(lambda: numpy.asarray(table()) @ bearoff.WEIGHTS)),
+            int(1e6 * least(lambda: numpy.asarray(table(words=True)) @ database.weights)),
             "us",
         )
 

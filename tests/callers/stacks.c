@@ -50,7 +50,8 @@ static union {
     bearoff_recorded_play play;
     bearoff_fraction loss;
     bearoff_result results[BEAROFF_RESULTS];
-    bearoff_stand stand;
+    bearoff_info stand;
+    bearoff_race race;
     uint64_t number;
     uint16_t half;
 } told;
@@ -92,8 +93,9 @@ CALL(listed_positions, bearoff_listed_positions(&opened, 0, told.positions, list
 CALL(listed_means, bearoff_listed_means(&opened, 0, told.means, listed()))
 CALL(listed_epcs, bearoff_listed_epcs(&opened, 0, told.epcs, listed()))
 CALL(listed_distributions, bearoff_listed_distributions(&opened, 0, told.shares, listed()))
-CALL(parse_position, bearoff_parse_position((const uint8_t *)"0,0,0,2,0,1", 11, told.positions))
-CALL(standing, bearoff_standing(&now->at, &told.stand))
+CALL(read_position,
+     bearoff_read_position((const uint8_t *)"xwQAgHY8AAAAAA:cAkFAAAAAAAE", 27, &told.race, text))
+CALL(position_info, bearoff_position_info(&now->at, &told.stand))
 CALL(status_text, bearoff_status_text(28, text, sizeof text, &needed))
 CALL(library_version, bearoff_library_version(&told.half, &told.half, &told.half))
 CALL(thousandths, !bearoff_thousandths(&told.loss, &told.number))
@@ -133,8 +135,8 @@ static const row first_made[] = {ONCE(build), ONCE(open), END},
                                  ROW(listed_means),
                                  ROW(listed_epcs),
                                  ROW(listed_distributions),
-                                 ROW(parse_position),
-                                 ROW(standing),
+                                 ROW(read_position),
+                                 ROW(position_info),
                                  ROW(status_text),
                                  ROW(library_version),
                                  END};

@@ -2,18 +2,17 @@
 // what is guessed there; and the databases behind it: the wrong moments that there were, and others like them, the
 // whole board, which is built beside the open one, and browsers that can't.
 import { readFileSync } from "node:fs";
-import { inSentence, isShort, sumOfFractions } from "../../web/fractions.js";
+import { received, wanted } from "../../web/asks.js";
+import { asSvg } from "../../web/board/picture.js";
+import { pressed } from "../../web/board/state.js";
+import { moved, verdict } from "../../web/board/view.js";
+import { readEstimate } from "../../web/lesson/text.js";
 import { readCounts, readLink, readTyped, START, writeLink } from "../../web/link.js";
-import { moved, verdict } from "../../web/panels.js";
-import { asSvg } from "../../web/picture.js";
 import { ROLLS } from "../../web/points.js";
 import { begin } from "../../web/state.js";
-import { pressed } from "../../web/state/board.js";
-import { received, wanted } from "../../web/state/database.js";
-import { readEstimate } from "../../web/trainer.js";
-import { textOf } from "../../web/tree.js";
-import { about, answerTo, equal, heard, legalFrom, linkOf, losing, numbersOf, pipsOf, rollsFrom, settled, tell, test,
-    Used, WAITS, Worker, wrong } from "./stand_in.mjs";
+import { inSentence, isShort, sumOfFractions } from "../../web/texts.js";
+import { about, answerTo, bytesAs, equal, heard, legalFrom, linkOf, losing, numbersOf, pipsOf, rollsFrom, settled, tell, test,
+    Used, WAITS, Worker, wrong, textOf } from "./stand_in.mjs";
 
 test("clicks", async () => {
     about("clicks");
@@ -635,13 +634,13 @@ test("the wrong moments", async () => {
 
     about("a file that can't be read");
     used = await Used.open(TWO);
-    await used.drop({ arrayBuffer: async () => { throw new Error("a folder"); } });
+    await used.drop(bytesAs(async () => { throw new Error("a folder"); }));
     used.sees("words", { trouble: "This didn't work: a folder.", "hidden bar": true });
 
     about("two loads");
     used = await Used.open(TWO);
     const load = async () => {
-        tell(used.at("file"), "change", { target: { files: [{ arrayBuffer: async () => new ArrayBuffer(8) }] } });
+        tell(used.at("file"), "change", { target: { files: [bytesAs(async () => new ArrayBuffer(8))] } });
         await settled();
     };
     await load();
@@ -891,7 +890,7 @@ test("a file of one's own, and 90 pips", async () => {
         equal("for the whole board", built(used), "start 90");
         await used.widened();
         used.sees("and has it", { "in coach": "Question 1 of 20.", "length questions": 20 });
-        const pips = used.session.state.questions.map(({ points }) => pipsOf(points));
+        const pips = used.session.state.run.questions.map(({ points }) => pipsOf(points));
         equal("of its theme", [Math.min(...pips) > 44, Math.max(...pips) > 70], [has === 44, has === 44]);
     }
 });

@@ -1,18 +1,18 @@
 // What the page's script draws, and what it reads from an address, under node.
-import { board, lookedAt, miniature, placeUnder, played, watched } from "../../web/board.js";
-import { abilities } from "../../js/abilities.js";
+import { board, dicePicture, die, lookedAt, miniature, placeUnder, played, watched } from "../../web/board/drawing.js";
+import { asSvg, linesOf } from "../../web/board/picture.js";
+import { byLoss } from "../../web/board/state.js";
+import { chances, kept, numbers } from "../../web/board/view.js";
 import { Bar, Client, reached } from "../../web/client.js";
-import { decimal, notation, percent } from "../../web/texts.js";
 import { MOST_KEPT, readLink, START, writeLink } from "../../web/link.js";
 import { readPoints, ROLLS } from "../../web/points.js";
-import { chances, dicePicture, die, kept, numbers } from "../../web/panels.js";
-import { asSvg, linesOf } from "../../web/picture.js";
-import { followingOf, kindsOf, numbersFrom } from "../../web/questions.js";
-import { byLoss } from "../../web/state/reads.js";
-import { build, draw, h, textOf } from "../../web/tree.js";
+import { followingOf, kindsOf, numbersFrom } from "../../web/question/questions.js";
+import { decimal, notation, percent } from "../../web/texts.js";
+import { build, draw, h } from "../../web/tree.js";
+import { abilities } from "../../js/abilities.js";
 import { Browser } from "./browser.mjs";
 import { equal, part } from "./given.mjs";
-import { newDocument, Window, Worker, tell } from "./stand_in.mjs";
+import { newDocument, Window, Worker, tell, textOf } from "./stand_in.mjs";
 
 const caption = "<img src=x onerror=\"document.title='no'\"> & \"quotes\", 'too' \u2212 100%";
 const document = newDocument();
@@ -157,9 +157,30 @@ part("what stands in a picture", async () => {
     equal("a move and one off", ends([[6, 3], [4, 0]]),
         [["50 180 350 300", "250 240 650 180"], ["50 180", "250 240"], ["350 300"]]);
     equal("two of a point", ends([[6, 4], [6, 4]]),
-        [["50 180 250 180", "50 240 250 120"], ["50 180", "50 240"], ["250 180", "250 120"]]);
-    equal("one that goes on", ends([[6, 5], [5, 0]]),
-        [["50 180 150 300", "150 300 650 180"], ["50 180", "150 300"], ["150 300"]]);
+        [["50 180 250 120"], ["50 180", "50 240"], ["250 180", "250 120"]]);
+    equal("one that goes on", ends([[6, 5], [5, 0]]), [["50 180 650 180"], ["50 180"], []]);
+    const times = (moves) => [...build(document, watched([0, 0, 0, 2, 0, 3], moves)).querySelectorAll("text.times")]
+        .map((text) => text.textContent);
+    equal("how many go the same way", [[[6, 3], [4, 0]], [[6, 4], [6, 4]], [[6, 5], [5, 4], [6, 5], [5, 4]],
+        [[6, 5], [6, 5], [6, 5], [4, 3]]].map(times), [[], ["2"], ["2"], ["3"]]);
+    // no arrow leaves the felt, whose upper edge is at -48, though the stack is the tallest
+    const highest = (moves) => Math.min(...classed(build(document, watched([0, 0, 0, 0, 0, 15], moves)), "path", "way")
+        .map((way) => way.getAttribute("d").match(/-?[\d.]+/g).map(Number)).map(([, y, , one, , other, , low]) =>
+            Math.min(...Array.from({ length: 41 }, (_, part) => part / 40).map((t) =>
+                (1 - t) ** 3 * y + 3 * (1 - t) ** 2 * t * one + 3 * (1 - t) * t * t * other + t ** 3 * low))));
+    equal("arrows from a tall stack", [[[6, 5]], [[6, 0], [6, 5], [6, 4], [6, 3]]].map((moves) => highest(moves) > -40), [true, true]);
+    // the checkers have keys of their own, and a moved one keeps its
+    const keyed = (made) => new Map([...build(document, played({ points: [0, 0, 0, 2, 0, 3], ways: new Map(), play: null },
+        { picked: null, stop: null, made }, act)).querySelectorAll(".glides circle")].map((disc) =>
+        [disc.getAttribute("data-key"), `${disc.getAttribute("cx")} ${disc.getAttribute("cy")}`]));
+    equal("a checker that glides", [...keyed([[6, 3]])].filter(([key, at]) => keyed([]).get(key) !== at),
+        [["checker 6.2", "350 300"]]);
+    equal("in an order that stays, so that none is taken out and put in again", [...keyed([[6, 3]]).keys()],
+        [...keyed([]).keys()]);
+    equal("one that is borne off", [keyed([]).size, keyed([[4, 0]]).size], [5, 4]);
+    const dice = (roll) => [...build(document, watched([0, 0, 0, 2, 0, 3], [], roll)).querySelectorAll(".thrown > g")]
+        .map((die) => die.querySelectorAll("circle").length);
+    equal("the dice that were thrown", [dice([6, 5]), dice([1, 1]), dice(null)], [[6, 5], [1, 1], []]);
     const marks = build(document, played({ points: [0, 0, 0, 2, 0, 3],
             ways: new Map([[6, new Map([[3, []], [0, []]])]]), play: null }, { picked: 6, stop: null }, act));
     equal("rings where a checker can go", [classed(marks, "circle",

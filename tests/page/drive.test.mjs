@@ -1,19 +1,20 @@
 // Drives the page in the headless browsers that are installed, Chromium and Firefox, as a reader would,
 // and compares what it shows with the program's replies. The variable BROWSERS names those to be driven, PARTS the
-// parts alone that are, LEFT_OUT those that aren't, and PICTURES a folder for a picture of each width and colours.
+// parts alone that are, LEFT_OUT those that aren't, and PICTURES a folder for a picture of each width and colours. With
+// BRIEF the longest parts look at fewer lessons and sizes, in which tests/page/mutants plants its faults.
 import { execFileSync, spawn } from "node:child_process";
 import { createHash } from "node:crypto";
-import { readFileSync, writeFileSync } from "node:fs";
+import { mkdtempSync, openSync, readFileSync, readSync, rmSync, writeFileSync, writeSync } from "node:fs";
 import { createServer } from "node:http";
-import { availableParallelism } from "node:os";
+import { availableParallelism, tmpdir } from "node:os";
 import { join } from "node:path";
 import { after, test } from "node:test";
 import { pathToFileURL } from "node:url";
 import { installed, started } from "./browser.mjs";
-import { positions } from "../../web/themes.js";
-import { readLessons } from "../../web/trainer.js";
+import { readLessons } from "../../web/lesson/text.js";
+import { positions } from "../../web/question/themes.js";
 import { audit } from "./audit.mjs";
-import { legalFrom } from "./stand_in.mjs";
+import { legalFrom, tokenOf } from "./stand_in.mjs";
 import { effectOf, equal as same, isJoined, pagePath, part, programPath, ROOT, testedFolder,
     wrong as fault } from "./given.mjs";
 
@@ -21,6 +22,8 @@ const address = pathToFileURL(pagePath()).href;
 const program = programPath();
 const folder = testedFolder();
 const pictures = process.env.PICTURES;
+const isBrief = Boolean(process.env.BRIEF);
+const few = (all, ...places) => (isBrief ? places.map((place) => all[place]) : all);
 const [chosen, left] = ["PARTS", "LEFT_OUT"].map((name) => process.env[name]?.split(" "));
 const asked = new Map();
 let browserName = "";
@@ -43,12 +46,30 @@ const wait = (milliseconds) => new Promise((keep) => setTimeout(keep, millisecon
 
 const pipsOf = (position) => position.split(",").reduce((sum, count, place) => sum + count * (place + 1), 0);
 
+// The program over a file, which it checks once, behind named pipes: those of a child can't be read at once.
+const answering = (words) => {
+    const place = mkdtempSync(join(tmpdir(), "asked-"));
+    execFileSync("mkfifo", ["lines", "replies"], { cwd: place });
+    spawn("sh", ["-c", 'exec "$@" <lines >replies', "sh", program, "query", ...words], { cwd: place, stdio: "ignore" }).unref();
+    const streams = [openSync(join(place, "lines"), "w"), openSync(join(place, "replies"), "r")];
+    rmSync(place, { recursive: true });
+    return streams;
+};
+
 // The program's reply to a line about a position, of the whole board where that has more than 44 pips.
 function ask(line) {
     if (!asked.has(line)) {
         const [, position = ""] = line.split(" ");
         const words = pipsOf(position) > 44 ? ["--board", join(folder, "whole.board")] : [join(folder, "race.db")];
-        const reply = execFileSync(program, ["query", ...words], { input: `${line}\n`, encoding: "utf8" });
+        if (!asked.has(words[0])) asked.set(words[0], answering(words));
+        const [lines, replies] = asked.get(words[0]);
+        writeSync(lines, `${line}\n`);
+        let reply = "";
+        for (const piece = Buffer.alloc(65536); !reply.endsWith("\n");) {
+            const count = readSync(replies, piece);
+            if (count === 0) throw new Error(`the program ended at ${line}`);
+            reply += piece.toString("latin1", 0, count);
+        }
         asked.set(line, reply.trim());
     }
     return asked.get(line);
@@ -160,7 +181,8 @@ async function compareRolls(page, position) {
     await page.there(".plays");
     const costs = await costsOf(page);
     equal("what the plays of 31 lose", costs, lossesOf(position, "31"));
-    await sees(page, "arcs", { "count #board .arc": 2 });
+    const [shown] = await page.look([".plays [aria-pressed=true] .moves"]);
+    await sees(page, "an arrow for each way", { "count #board .arc": shown.split(" ").length });
     await page.click(".plays button:last-child");
     // a long fraction is told as a decimal
     const [loss] = (await page.value('document.querySelector(".plays button:last-child .cost").title')).split(" ");
@@ -414,9 +436,10 @@ async function driveWider(browser) {
     equal("fast: what is asked", await fast.value(WORKERS), [["start 44", false], ["start 90", false]]);
     await give(fast, "fast: while 90 pips are built", near);
     await shows(fast, "fast: nothing is said of it", "44 pips");
+    await fast.until('document.querySelectorAll(".rolls .next").length === 21');
     await fast.value('window.before = document.querySelector("main").innerHTML');
     await isOpen(fast, 90);
-    equal("fast: nothing changes with it", await fast.value('document.querySelector("main").innerHTML === before'), true);
+    equal("fast: nothing changes with it", await fast.value('document.querySelector("main").innerHTML'), await fast.value("before"));
     equal("fast: one worker is left", (await fast.value(WORKERS)).map(([, isEnded]) => isEnded), [true, false]);
     await give(fast, "fast: 79 pips", far);
     await compareRolls(fast, far);
@@ -450,8 +473,8 @@ async function driveWider(browser) {
     equal("a link to 79 pips builds once", await linked.value(WORKERS), [["start 90", false]]);
 
     // no memory for it: unasked it is silent, and where it is needed it is said; then it is tried again by its button
-    for (const [what, prefix] of [["no memory", NO_MEMORY], ["a worker that dies", "setTimeout(() => { throw new Error('gone'); }, "
-        + "0); self.onmessage = () => {}; Object.defineProperty(self, 'onmessage', { set() {} });"]]) {
+    for (const [what, prefix] of few([["no memory", NO_MEMORY], ["a worker that dies", "setTimeout(() => { throw new Error('gone'); }, "
+        + "0); self.onmessage = () => {}; Object.defineProperty(self, 'onmessage', { set() {} });"]], 0)) {
         const page = await open("#at=2,2,2,2,2,2", [500, { bad: 2, prefix }]);
         await page.until("workers.length === 2 && workers[1].isEnded")
             .catch(() => wrong(`${what}: the second worker isn't let go`));
@@ -681,11 +704,11 @@ async function driveSaved(browser) {
         [canvas.width, canvas.height] = [picture.width, picture.height];
         const context = canvas.getContext("2d");
         context.drawImage(picture, 0, 0);
-        const isChecker = (x, y) => [...context.getImageData(2 * x, 2 * y, 1, 1).data].join() === "38,65,58,255";
+        const isChecker = (x, y) => [...context.getImageData(2 * (x + 32), 2 * (y + 64), 1, 1).data].join() === "244,234,212,255";
         const counts = [550, 450, 350, 250, 150, 50].map((x) => [300, 240, 180].filter((y) => isChecker(x, y)).length);
         return [picture.width, picture.height, counts.join(), saved[1].file.type, saved.map(({ name }) => name)];
     })`);
-    equal("a PNG file", png, [1400, 914, "1,0,0,2,0,0", "image/png",
+    equal("a PNG file", png, [1496, 1050, "1,0,0,2,0,0", "image/png",
             ["bearoff-1-0-0-2-0-0.svg", "bearoff-1-0-0-2-0-0.png"]]);
     equal("nothing went wrong", page.troubles(), []);
 }
@@ -787,7 +810,7 @@ const textOf = (moves) => moves.map(([from, to]) => `${from}/${to || "off"}`).jo
 const NEXT = keyed("next question");
 const MAKING = 'document.querySelector("#board .source") && document.querySelector(".plays")';
 
-// A drill of twenty by its seed, each play made in the way of its place: each verdict, what it loses and the score are
+// Practise: twenty questions by its seed, each play made in the way of its place: each verdict, what it loses and the score are
 // the program's.
 // What was missed is asked once more, and then counts for nothing.
 async function playDrill(page, hash, way, next) {
@@ -808,11 +831,13 @@ async function playDrill(page, hash, way, next) {
         const moves = movesTo(position, roll, to);
         await way(place)(page, moves, texts);
         await page.known("#coach .verdict");
-        const [verdict, shown] = await page.look(["#coach .verdict", ".plays [aria-pressed=true] .moves"]);
+        const [strong, verdict, shown] = await page.look(["#coach .verdict b", "#coach .verdict .rest", ".plays [aria-pressed=true] .moves"]);
         equal(`${words} what was played`, effectOf(shown), effectOf(textOf(moves)));
         equal(`${words} what it loses`,
             await page.value('document.querySelector(".plays [aria-pressed=true] .cost").title'), `${loss} of a roll`);
         const lost = over(loss);
+        equal(`${words} its size`, strong, lost[0] === 0n ? "Best!" : rounded(lost) < 0.02 ? "Tiny mistake"
+            : rounded(lost) < 0.08 ? "Small mistake" : "Big mistake");
         const best = verdict.match(/best is ([^.]*)\./)?.[1] || verdict.match(/^(.*) is best\./)?.[1] || "";
         equal(`${words} what is best`, effectOf(best), effectOf(ask(`play ${position} ${roll}`).split(" to ")[0].slice(5)));
         equal(`${words} the verdict`, verdict, lost[0] === 0n ? `${shown} is best.`
@@ -831,7 +856,7 @@ async function playDrill(page, hash, way, next) {
     equal(`${hash}: the score, exactly`, told.match(/Exactly: (.*) of a roll/)?.[1] ?? null,
         lowest.length <= 24 ? lowest : null);
     equal(`${hash}: the score`, told.split(" Exactly")[0],
-        `20 of 20 were played. They lost ${rounded(sum)} rolls, or ${inPips(sum)} pips of EPC.`);
+        `You played 20 of 20, and lost ${rounded(sum)} rolls, or ${inPips(sum)} pips of EPC.`);
     await sees(page, `${hash}: what was missed`, { ".score + p": `${missed === 1 ? "One was missed" : `${missed} were missed`
         }; asked once more, ${right} ${right === 1 ? "was" : "were"} right.` });
     equal(`${hash}: nothing went wrong`, page.troubles(), []);
@@ -866,7 +891,9 @@ async function driveDrill(browser) {
 const click = (key) => `document.querySelector('[data-key="${key}"]').click()`;
 const touchBoard = 'document.querySelector("#board .source").dispatchEvent(new MouseEvent("click", { bubbles: true }))';
 const playLast = 'document.querySelector(".plays button:last-child").click()';
-const write = (key, text, then) => `document.querySelector('[data-key="${key}"]').value = ${JSON.stringify(text)}; ${click(then)}`;
+const given = (key, text) => `{ const field = document.querySelector('[data-key="${key}"]');
+    field.value = ${JSON.stringify(text)}; field.dispatchEvent(new Event("change", { bubbles: true })); }`;
+const write = (key, text, then) => `${given(key, text)} ${click(then)}`;
 
 // Keeps what is heard, one after the other.
 const HEARD = `window.heard = [];
@@ -906,7 +933,7 @@ const ACTS = {
 // A whole session by keyboard alone, by touch alone, and by what is told: from home through ten questions, each with its
 // verdict and with what it lost, and once more through what was missed, to the review and home.
 async function driveSession(browser) {
-    for (const [way, act] of Object.entries(ACTS)) {
+    for (const [way, act] of few(Object.entries(ACTS), 0)) {
         const page = await browser.open(address, { before: `localStorage.clear(); ${HEARD}`,
             ...(way === "touch" ? { width: 360, height: 780, mobile: true } : {}) });
         await page.send("DOM.enable");
@@ -930,9 +957,9 @@ async function driveSession(browser) {
         equal(`${way}: ten, and what was missed once more`, asked, 10 + missed);
         await page.known("#review");
         if (missed > 0) await page.there(".reviewed .why > *");
-        const [throws] = await page.look(["count .reviewed .why > p"]); // none where the last checker is off
+        const [throws] = await page.look(["count .reviewed .why .compared"]); // where one tells the plays apart
         await sees(page, `${way}: the review`, { "count .reviewed > li": 10, "count .reviewed > .lost": missed,
-            "count .reviewed .compared": missed > 0 ? 1 + throws : 0, ".score": /^10 of 10 were played\./ });
+            "count .reviewed .compared": missed > 0 ? 1 + throws : 0, ".score": /^You played 10 of 10, / });
         const heard = await page.value("window.heard");
         equal(`${way}: what is heard`, [
             heard.filter((text) => /^(Question|Once more).* Which play of \d-\d is best\? The board: /.test(text)).length,
@@ -967,7 +994,8 @@ const EDITING = `[...document.querySelectorAll("[role=spinbutton], #counts, #kee
 // is said of it with the way on; nothing edits a position; and the focus is never lost.
 async function driveSight(browser) {
     let [measured, actions] = [0, 0];
-    for (const [width, height, mobile] of [[360, 780, true], [768, 1024, true], [1180, 800, false], [780, 360, true]]) {
+    const sizes = [[360, 780, true], [768, 1024, true], [1180, 800, false], [780, 360, true]];
+    for (const [width, height, mobile] of few(sizes, 0, 3)) {
         const page = await browser.open(address, { width, height, mobile });
         await page.until(HOME);
         const press = (selector) => page.value(`(() => {
@@ -995,7 +1023,7 @@ async function driveSight(browser) {
         // from far below, where the lessons stand
         const numbers = Array.from({ length: 17 }, (_, place) => place + 1);
         const titles = await page.look(numbers.map((number) => keyed(`lesson ${number}`)));
-        for (const [place, title] of titles.entries()) {
+        for (const [place, title] of few([...titles.entries()], 0, 2, 11, 16)) {
             await page.value('location.hash = "#home"');
             await page.until(HOME);
             await focusOn(page, keyed(`lesson ${place + 1}`));
@@ -1039,7 +1067,7 @@ async function driveSight(browser) {
 
         for (const [asked, level] of [["play", "hard"], ["effective", "any"]]) {
             for (const [key, value] of [["theme", "all"], ["asked", asked], ["level", level], ["seed", "12"]]) {
-                await page.value(`document.querySelector('${keyed(key)}').value = "${value}"`);
+                await page.value(given(key, value));
             }
             await page.aim(keyed("begin drill"));
             await press(keyed("begin drill"));
@@ -1048,7 +1076,7 @@ async function driveSight(browser) {
             equal("a drill begins where one goes on", await acted("a drill"), "coach");
             if (asked === "play") equal(`${width} x ${height}: Tabs to the first play`,
                 await tabsTo(page, '(document.activeElement.dataset.key || "").startsWith("play ")') < 10, true);
-            for (let place = 0; place < 4; place += 1) {
+            for (let place = 0; place < (isBrief ? 2 : 4); place += 1) {
                 const name = `${asked}, question ${place + 1}`;
                 await look(name, "#coach .asks", ...(asked === "play" ? [] : ["#numbers .estimate input", keyed("tell")]));
                 if (asked === "play") {
@@ -1067,11 +1095,11 @@ async function driveSight(browser) {
                     equal(`${name}: the focus is at the way on`, await acted(`${name}, played`), "next question");
                     await look(`${name}, its verdict`, "#coach .verdict", NEXT);
                 } else {
-                    await page.value('document.querySelector(".estimate input").value = "x"');
+                    await page.value(given("estimate", "x"));
                     await press('[data-key="tell"]');
                     await acted(`${name}, a word`);
                     await look(`${name}, a word`, "#estimate-why p");
-                    await page.value('document.querySelector(".estimate input").value = "40"');
+                    await page.value(given("estimate", "40"));
                     // a number that is still being computed is compared in a moment
                     for (let tried = 0; tried < 40
                             && await page.value('document.querySelector("#numbers .verdict") === null'); tried += 1) {
@@ -1120,7 +1148,7 @@ async function drivePlayed(browser) {
     await page.click(keyed("made"));
     await page.known("#coach .verdict");
     await sees(page, "its verdict",
-        { "#coach .verdict": "6/off loses 0.056 of a roll; best is 6/1 4/2. In EPC: 0.454 pips." });
+        { "#coach .verdict .rest": "6/off loses 0.056 of a roll; best is 6/1 4/2. In EPC: 0.454 pips." });
     for (const [way, to, roll] of [["mouse", 0, "33"], ["keys", 1, "31"]]) {
         await page.click(keyed("next step"));
         await page.there("#board .source");
@@ -1269,12 +1297,12 @@ async function driveClicks(browser) {
         await page.close();
         return early;
     };
-    let early = 0;
+    let [early, step] = [0, isBrief ? 100 : 20];
     for (const isBusy of [false, true]) {
         const count = isBusy ? availableParallelism() : 0;
         const loops = Array.from({ length: count }, () => spawn(process.execPath, ["-e", BUSY]));
         try {
-            for (let offset = isBusy ? 10 : 0; offset <= 500 && lost.length < 5; offset += 20) {
+            for (let offset = isBusy ? 10 : 0; offset <= 500 && lost.length < 5; offset += step) {
                 early += await clickAt(offset, offset / 10 % 15 + 1);
             }
         } finally {
@@ -1282,7 +1310,7 @@ async function driveClicks(browser) {
         }
     }
     equal("clicks on lessons that were lost", lost, []);
-    if (lost.length === 0) equal("aimed at before the page was ready", early > 40, true);
+    if (lost.length === 0) equal("aimed at before the page was ready", early > 800 / step, true);
 }
 
 // A match of each form whose last play was made a worse one, from the drop to the first question that comes back: what it
@@ -1465,7 +1493,7 @@ async function drivePrint(browser) {
     // each lesson of the page, whole: its title, and of each step the board, the text, the question, the dice and the
     // answer
     const { lessons } = readLessons(readFileSync(new URL("../../web/lessons.txt", import.meta.url), "utf8"));
-    for (const [number, { title, steps }] of lessons.entries()) {
+    for (const [number, { title, steps }] of few([...lessons.entries()], 2)) {
         const page = await browser.open(`${address}#lesson=${number + 1}`);
         await page.until('document.body.dataset.ready && document.querySelector("#printed h2")');
         await pages(page, title, 1);
@@ -1625,7 +1653,7 @@ const PICTURED = [
     ["teacher", "#teacher", keyed("sheet"), write("positions", "2,2,2,2,2,2 31\n0,0,0,1,0,1 52\n1,0,0,0,0,0 65", "sheet"),
         ".key li", { sizes: ALL_SIZES }],
     ["results", "#teacher", keyed("show results"), write("results", ["Ada", "Bo with a name as long as names can be, and no longer one"]
-        .map((name) => `bearoff result 1\ndrill all 7 play hard\nname ${name}\nlost 0 56 120\nplayed 6/off, 5/1 4/2, 6/2(2) 5/1(2)`)
+        .map((name) => tokenOf("all", 7, "play", "hard", "", encodeURIComponent(name), "0,56,120", "6o,51_42,62(2)_51(2)"))
         .join("\n"), "show results"), ".pupils.questions", { sizes: ALL_SIZES }],
     ["games", "#games", keyed("read match"), write("match text",
         readFileSync(join(ROOT, "python/tests/matches/short.mat"), "utf8"), "read match"),
@@ -1657,8 +1685,10 @@ async function takePictures(browser) {
         all.contrasts += compared;
         all.names += labels;
     };
-    for (const [what, hash, there, act, then = "body", { before, sizes = ALL_SIZES.slice(0, 2) } = {}] of PICTURED) {
-        for (const [[width, height], colours] of sizes.flatMap((size) => [[size, "light"], [size, "dark"]])) {
+    const brief = ["start", "lesson", "drill", "editor", "print", "embedded"];
+    const pictured = PICTURED.filter(([what]) => !isBrief || brief.includes(what));
+    for (const [what, hash, there, act, then = "body", { before, sizes = ALL_SIZES.slice(0, 2) } = {}] of pictured) {
+        for (const [[width, height], colours] of few(sizes, 0, 1).flatMap((size) => [[size, "light"], [size, "dark"]])) {
             const isFirst = colours === "light" && ALL_SIZES.slice(0, 2).some(([wide]) => wide === width);
             const name = `${what} ${width}${isFirst ? "" : ` ${colours}`}`;
             const page = await browser.open(address + encodeURI(decodeURI(hash)),
@@ -1679,7 +1709,7 @@ async function takePictures(browser) {
             await page.close();
         }
     }
-    for (const [width, height] of [[360, 780], [768, 1024], [1180, 800], [1920, 1080]]) {
+    for (const [width, height] of few([[360, 780], [768, 1024], [1180, 800], [1920, 1080]], 0)) {
         for (const colours of ["light", "dark", "forced"]) {
             const page = await browser.open(address + TEACHING, { width, height, colours, mobile: width < 900 });
             await page.until(`${READY} && document.querySelector(".plays") && ${KNOWN}`);

@@ -1,11 +1,13 @@
 // Home, without a browser: what each screen has, today's ten and what stays of them, lessons with their drills and
 // marks, a drill of one's choice, and what is said of a link that can't be taken.
+import { readFileSync } from "node:fs";
+import { giveMatch } from "../../web/games/state.js";
+import { drillOfLesson, fittingLesson, lessonOfDrill, ROOMS } from "../../web/lesson/rooms.js";
+import { giveLesson, learntBetween } from "../../web/lesson/state.js";
 import { readLink } from "../../web/link.js";
-import { drillOfLesson, fittingLesson, lessonOfDrill, ROOMS } from "../../web/rooms.js";
-import { learntBetween } from "../../web/state.js";
-import { isFar, missedOf } from "../../web/state/reads.js";
-import { giveEstimate } from "../../web/state/training.js";
-import { THEMES } from "../../web/themes.js";
+import { isFar } from "../../web/question/questions.js";
+import { askNext, giveEstimate, missedOf } from "../../web/question/state.js";
+import { THEMES } from "../../web/question/themes.js";
 import { about, best, equal, linkOf, losing, memoryOf, settled, tell, test, Used } from "./stand_in.mjs";
 
 // Which parts of the page are in the document on each screen.
@@ -45,7 +47,7 @@ test("lessons, their drills and marks", async () => {
         ["no mark", "", { "there mark 1": false, "aria-label of drill 1": "Drill: One",
             "all .rooms h3": ["Count", "Shape"] }]]);
     await used.do([`go ${used.find("lesson 1").getAttribute("href")}`]);
-    const lessonsOf = () => used.session.state.memory.lessons;
+    const lessonsOf = () => used.session.state.student.memory.lessons;
     equal("not read yet", lessonsOf(), []);
     await used.do("answer");
     equal("read", [lessonsOf(), used.window.kept.get("bearoff memory").endsWith("\nlesson 1 0 0")],
@@ -56,7 +58,7 @@ test("lessons, their drills and marks", async () => {
     const { drill } = used.session.state;
     equal("its drill", [drill.theme, drill.ask, lessonOfDrill(drill)], ["all", "wastage", 1]);
     await used.do(Array(20).fill(["estimate=999", "tell", "next question"]).flat());
-    const mark = `${used.session.state.estimates.filter((one) => !isFar(one)).length} of 20`;
+    const mark = `${used.session.state.run.estimates.filter((one) => !isFar(one)).length} of 20`;
     await used.run("", [["how much was right stays", "go #home", { "mark 1": mark }]]);
     (await Used.open("", { lessons, kept: used.window.kept })).sees("when the page is loaded anew", { "mark 1": mark });
     await used.do("drill 2");
@@ -68,12 +70,14 @@ test("lessons, their drills and marks", async () => {
     equal("a lesson is read at its last step", [1, 2].map((step) =>
         learntBetween({ ...two, step: 0 }, { ...two, step })),
         [null, [1, 0, 0]]);
-    const numbers = ROOMS.flatMap((room) => room.lessons.map(({ number }) => number));
+    const numbers = ROOMS.flatMap((room) => room.lessons.map(([number]) => number));
     equal("each lesson is in one room", [...numbers].sort((one, other) => one - other),
         Array.from({ length: 17 }, (_, place) => place + 1));
     equal("each drill is of one lesson", numbers.map((number) => lessonOfDrill(drillOfLesson(number, 7))), numbers);
-    for (const [made, wanted, lesson] of [["1,1,0,0,0,0", "2,0,0,0,0,0", 10], ["2,0,0,1,0,0", "2,1,0,1,0,0", 15],
-        ["2,1,0,1,0,0", "2,0,0,1,0,0", 3], ["2,0,0,1,0,1", "1,1,1,1,0,0", 2], ["1,1,1,1,0,0", "2,1,1,0,0,0", 9]]) {
+    for (const [made, wanted, lesson] of [["1,1,0,0,0,0", "2,0,0,0,0,0", 10], ["1,0,0,0,0,0", "0,0,0,0,0,0", 10],
+        ["2,0,0,1,0,0", "2,1,0,1,0,0", 15], ["2,1,1,1,0,0", "2,1,0,1,0,0", 7], ["2,1,0,1,0,0", "2,0,0,1,0,0", 7],
+        ["2,0,0,1,0,1", "1,1,1,1,0,0", 2], ["3,1,1,0,0,0", "2,2,1,0,0,0", 1], ["1,3,1,0,0,0", "1,2,2,0,0,0", 2],
+        ["1,1,1,1,0,0", "2,1,1,0,0,0", null], ["1,1,1,0,0,0", "2,1,1,0,0,0", 15]]) {
         const [play, right] = [made, wanted].map((counts) => ({ to: counts.split(",").map(Number) }));
         equal(`the lesson that fits ${made} where ${wanted} is best`, fittingLesson({ play, best: right }), lesson);
     }
@@ -96,7 +100,7 @@ function ratedBy(text) {
 
 // Answers the questions of a drill, of which some are missed.
 async function play(used, isMissed) {
-    for (const [place, { roll }] of used.session.state.questions.entries()) {
+    for (const [place, { roll }] of used.session.state.run.questions.entries()) {
         await used.do([isMissed(place) ? losing(roll) : best(roll), "next question"]);
     }
 }
@@ -104,7 +108,7 @@ async function play(used, isMissed) {
 test("a student's days", async () => {
     let used = await Used.open();
     await used.run("the first day", [["the panel, and what stays where", "",
-        { "hidden today": false, ".daily-told": `${BEGINNING} Ten questions, the first ones easy, some three minutes. `
+        { "hidden today": false, ".daily-told": `${BEGINNING} Ten questions, the first ones easy, about three minutes. `
             + "What you miss comes back tomorrow.",
         "#today .begin": "Begin ten new", "in today": "What you answer stays on this device; nothing of it is sent.",
         "count #today .days": 0 }]]);
@@ -113,18 +117,20 @@ test("a student's days", async () => {
     await used.run("", [["today's ten", "today", { "state drill": drill, "length questions": 10, focus: "coach",
         "hidden today": true, title: "Question 1 of 10: Today\u2019s ten \u2013 Bearing off",
         "in coach": ["Today\u2019s ten", "Question 1 of 10.", "Ten that are new: All positions."] }]]);
-    const { questions } = used.session.state;
+    const { questions } = used.session.state.run;
     equal("its link", readLink(used.look("hash")).drill, drill);
     await used.do(losing(questions[0].roll));
     equal("one is missed", kept(used),
-        `bearoff memory 4\nlearnt 0\nsizes 0 1 0\nrating 56000 19000 1\ntheme all 1 1 56\n`
-        + `day ${day} 1 1 0\ncard ${questions[0].points} ${questions[0].roll.join("")} all 0 ${day + 1} 56`);
+        `bearoff memory 5\nlearnt 0\nsizes 0 1 0\nrating 56000 19000 1\nlevel all easy 0 56000 19000 ${day}\ntheme all 1 1 56\n`
+        + `day ${day} 1 1 0\ncard ${questions[0].points} ${questions[0].roll.join("")} all 0 ${day + 1} 56\n`
+        + `ten all ${day} play first -\npick ${questions[0].points} ${questions[0].roll.join("")} ${
+            losing(questions[0].roll).slice(5).replace(" ", "_")}`);
     await used.do("next question");
     for (const { roll } of questions.slice(1)) {
         await used.do([roll === questions[1].roll ? losing(roll) : best(roll), "next question"]);
     }
     const missed = missedOf(used.session.state);
-    equal("ten are kept, and a run", kept(used).split("\n")[5], `day ${day} 10 ${missed.length} 1`);
+    equal("ten are kept, and a run", linesOf(used, "day"), [`day ${day} 10 ${missed.length} 1`]);
     const before = kept(used);
     for (const { roll } of missed) await used.do([losing(roll), "next question"]);
     equal("once more counts for nothing", kept(used), before);
@@ -133,7 +139,7 @@ test("a student's days", async () => {
         ["the score", "", { "in coach": many }],
         ["after ten", "end training", { "class of today": "begin", ".daily-told": `Today\u2019s ten are done. ${many}`,
             "#today .begin": "Ten more ten new",
-            "all #today dd": ["1 day", "0 today", `0.0${Math.round(5.6 * missed.length)} rolls`,
+            "all #today dd": ["1 day", "0 questions", `0.0${Math.round(5.6 * missed.length)} rolls`,
                 `${ratedBy(before)} of 100`] }],
         ["it is open", "all that is kept", { "aria-expanded of all that is kept": "true", "in today":
             `Today\u2019s ten were done once. Misses by what they lost, in rolls: 0 less than 0.020, ${missed.length
@@ -155,11 +161,11 @@ test("a student's days", async () => {
     const fresh = 10 - missed.length;
     const again = `${missed.length} that you missed come${missed.length === 1 ? "s" : ""} back`;
     await next.run("the day after", [
-        ["what comes back", "", { ".daily-told": `${again}, ${fresh} are new: Gaps, easy. Some three minutes.`,
+        ["what comes back", "", { ".daily-told": `${again}, ${fresh} are new: Gaps, any. About three minutes.`,
             "#today .begin": `Begin ${missed.length} again, ${fresh} new` }],
         ["what is said of them", "today", { "in coach": `${missed.length} again, ${fresh} new: Gaps.` }],
     ]);
-    equal("they are first", next.session.state.questions.slice(0, missed.length)
+    equal("they are first", next.session.state.run.questions.slice(0, missed.length)
         .map(({ points, roll }) => [points, roll]),
         missed.map(({ points, roll }) => [points, roll]));
     await play(next, () => false);
@@ -184,23 +190,36 @@ test("a student's days", async () => {
         ["it is closed", "", { "aria-expanded of all that is kept": "false", "there memory text": false }],
         ["copied", ["all that is kept", "copy memory", settled], { clipboard: text, "value memory text": text,
             "in today": "The text is copied.",
-                levels: "Levels, by the last twenty answers of each theme: Gaps, easy." }],
+                levels: "Levels, by the last twenty answers of each theme: All positions, any; Gaps, mixed." }],
         ["not copied", [() => { next.window.navigator = { clipboard }; }, "copy memory", settled],
             { "in today": "The browser lets this page copy nothing: copy the text from the field." }],
-        ["all is forgotten", "forget", { "begins .daily-told": BEGINNING, "in today": "All is forgotten.",
+        ["less than is kept isn't taken", [`memory text=bearoff memory 4`, "take memory"], {
+            "memory-why": `The text holds less than is kept here: 0 days, 0 questions that come back, 0 learnt, and not 2 days, ${
+                missed.length} questions that come back, 0 learnt.`, "take memory": "Restore it all the same" }],
+        ["another text is asked anew", [`memory text=bearoff memory 3`, "take memory"],
+            { "take memory": "Restore it all the same", "state memory": next.session.state.student.memory }],
+        ["what else is done takes the question back", "copy memory, all that is kept, all that is kept", {
+            "take memory": "Restore from this text", "memory-why": "", "there undo memory": false }],
+        ["forgetting is asked", "forget", { forget: "Delete 2 days?", "begins .daily-told": `${missed.length} that`,
+            "in today": `Tap again to delete all: 2 days, ${missed.length} questions` }],
+        ["all is forgotten", "forget", { "begins .daily-told": BEGINNING, "in today": "All is deleted.",
             focus: "forget" }],
+        ["and is there again", "undo memory", { "begins .daily-told": `${missed.length} that`,
+            "in today": "As it was before: 2 days." }],
+        ["also after ten were begun", "today, end training, all that is kept, all that is kept", { "there undo memory": true }],
+        ["which can be undone, too", "undo memory", { "begins .daily-told": BEGINNING }],
         ["a fault", [`memory text=${text}\nday x`, "take memory"], {
-            "memory-why": `Nothing of the text is taken. Line ${text.split("\n").length + 1} can't be read.`,
+            "memory-why": `Nothing of the text is restored. Line ${text.split("\n").length + 1} can't be read.`,
             "role of memory-why": "alert", "aria-invalid of memory text": "true", focus: "memory text" }],
     ]);
     equal("nothing is kept", next.window.kept.size, 0);
     await next.run("", [["it is there again, once", [`memory text=${text}`, "take memory", "take memory"],
         { "memory-why": "",
-        "begins .daily-told": `${missed.length} that you missed`, "in today": "The text is taken." }]]);
+        "begins .daily-told": `${missed.length} that you missed`, "in today": "The text is restored." }]]);
     equal("all of it", kept(next), text);
 
     const other = await Used.open("", onDay(next, 4));
-    await other.do("all that is kept, forget");
+    await other.do("all that is kept, forget, forget");
     const hears = (key) => () => next.window.listeners.get("storage")({ key });
     await next.run("two pages of a browser", [
         ["another key is none of it", [hears("other")], { "begins .daily-told": `${missed.length} that` }],
@@ -214,10 +233,114 @@ test("a student's days", async () => {
     await play(used, (place) => place === 0);
     await used.run("", [["it works till then", "end training",
         { "begins .daily-told": "Today\u2019s ten are done." }]]);
-    equal("with its day", used.session.state.memory.days[0].slice(0, 2), [day, 10]);
+    equal("with its day", used.session.state.student.memory.days[0].slice(0, 2), [day, 10]);
     used = await Used.open("", { kept: memoryOf("bearoff memory 9") });
     used.sees("what is of a newer page", { "in today":
-        "What is kept here can't be read, and stays as it is. It is of version 9, and this page knows 4." });
+        "What is kept here can't be read, and stays as it is. It is of version 9, and this page knows 5." });
+    await used.do("all that is kept, forget");
+    used.sees("without a day", { forget: "Delete all?" });
+    await used.do("forget");
+    equal("it is gone", used.window.kept.size, 0);
+    await used.do("undo memory");
+    equal("and there again", kept(used), "bearoff memory 9");
+});
+
+// What was begun of ten goes on, in any tab, till the next day is over.
+test("ten that were interrupted", async () => {
+    about("ten that were interrupted");
+    const used = await Used.open();
+    await used.do("today");
+    const { drill, run: { questions } } = used.session.state;
+    for (const place of [0, 1, 3]) {
+        const { roll } = questions[place];
+        if (place === 3) await used.do("next question");
+        await used.do([place === 1 ? losing(roll) : best(roll), "next question"]);
+    }
+    const words = (whose, till) =>
+        `3 of ${whose}\u2019s ten are answered. The other 7 wait till ${till} is over.`;
+    const goesOn = { "#today .begin": "Go on 3 of 10", "class of today": "begin first" };
+    await used.run("", [["home offers them", "end training", { ...goesOn,
+        ".daily-told": words("today", "tomorrow") }]]);
+    const text = kept(used);
+    for (const [name, days, told] of [["another tab", 0, words("today", "tomorrow")],
+        ["the next day", 1, words("yesterday", "today")]]) {
+        const next = await Used.open("", { ...onDay(used, days), kept: new Map(used.window.kept) });
+        await next.run(`ten that were interrupted, ${name}`, [
+            ["offered", "", { ...goesOn, ".daily-told": told }],
+            ["at the one that was left open", "today", { "state drill": drill, "state place": 2, "length guesses": 3,
+                title: "Question 3 of 10: Today\u2019s ten \u2013 Bearing off" }],
+        ]);
+        equal("its marks", next.document.querySelector(".bar-of").getAttribute("aria-label"), "Of 10: 2 right, 1 missed");
+        equal("nothing counts again", kept(next), text);
+        for (const place of [2, 4, 5, 6, 7, 8, 9]) {
+            await next.do([() => next.session.change(askNext, place), best(questions[place].roll)]);
+        }
+        equal("they are done", [linesOf(next, "ten").map((line) => line.split(" ").at(-1)), linesOf(next, "pick"),
+            linesOf(next, "day")[0].split(" ").at(-1)], [["done"], [], "1"]);
+        await next.run("", [["and not offered any more", "end training",
+            { "#today .begin": days === 0 ? "Ten more ten new" : "Begin 1 again, 9 new" }]]);
+    }
+    const late = await Used.open("", onDay(used, 2));
+    late.sees("after that day they are over", { "#today .begin": "Begin 1 again, 9 new" });
+    about("what another tab has answered meanwhile");
+    const other = await Used.open("", { kept: used.window.kept });
+    await other.do("today");
+    await other.do([best(questions[2].roll)]);
+    used.window.listeners.get("storage")({ key: "bearoff memory" });
+    await used.do("today");
+    equal("goes on from there", [used.session.state.place, used.session.state.run.guesses.length], [4, 4]);
+    await other.do([() => other.session.change(askNext, 4), best(questions[4].roll)]);
+    used.window.listeners.get("storage")({ key: "bearoff memory" });
+    await used.do([() => used.session.change(askNext, 5), best(questions[5].roll)]);
+    equal("and stays beside what is answered here", linesOf(used, "pick").length, 6);
+    about("the same ten in two tabs");
+    const asked = () => linesOf(used, "day").at(-1);
+    const before = asked();
+    await other.do([() => other.session.change(askNext, 5), best(questions[5].roll)]);
+    equal("the same question counts once", [asked(), linesOf(used, "pick").length], [before, 6]);
+    for (const tab of [used, other]) {
+        for (const place of [6, 7, 8, 9]) await tab.do([() => tab.session.change(askNext, place), best(questions[place].roll)]);
+    }
+    equal("and the ten once", asked(), `day ${day} 10 1 1`);
+    about("ten others");
+    const given = await Used.open("", { kept: new Map([["bearoff memory", text]]) });
+    await given.run("", [["in place of those that were interrupted", "ten others", { title: "Question 1 of 10: Today\u2019s ten \u2013 Bearing off",
+        "length guesses": 0 }]]);
+    equal("nothing of these is lost before an answer", kept(given), text);
+    await given.run("", [["they are others", [best(given.session.state.run.questions[0].roll), "end training"],
+        { "#today .begin": "Go on 1 of 10" }]]);
+    about("estimates that were interrupted");
+    const guess = await Used.open("", { kept: memoryOf("bearoff memory 5",
+        "card 1,2,3,0,0,0 - pips 0 5 1000", "card 1,1,0,0,0,0 - pips 0 5 1000", `day ${day - 1} 3 2 0`) });
+    await guess.run("", [["some are due", "estimates", { title: "Question 1 of 10: Ten estimates \u2013 Bearing off" }],
+        ["one is answered", "estimate=14, tell, end training", { "in today": "Go on Pip count: 1 of 10" }],
+        ["they go on", "estimates", { "state place": 1, "length estimates": 1 }]]);
+});
+
+// What is told goes away once the reader goes on, and what can't be kept is told while one trains.
+test("what is told, and till when", async () => {
+    about("what is told, and till when");
+    const match = readFileSync(new URL("../../python/tests/matches/short.mat", import.meta.url), "utf8");
+    const used = await Used.open();
+    used.session.become({ ...used.session.state, trouble: "The file was refused." }, false);
+    used.at("today").focus();
+    await used.run("", [["a refusal", "", { trouble: "The file was refused.", "hidden trouble": false }],
+        ["the next thing that is done", "today", { "hidden trouble": true, trouble: "" }],
+        ["a lesson that is none", [() => used.session.change(giveLesson, "x")], { "begins trouble": "The lesson can" }],
+        ["twice", [() => used.session.change(giveLesson, "x")], { "begins trouble": "The lesson can" }],
+        ["a match on a question", [() => used.session.change(giveMatch, match)],
+            { "hidden trouble": true, screen: "question", "begins notice": "The match is read. It waits at" }],
+        ["none", [() => used.session.change(giveMatch, "x")], { "begins notice": "No match: " }],
+        ["gone with the question", "next question", { "hidden notice": true }],
+        ["where it waits", "end training, go #games", { "hidden notice": true, screen: "games" }],
+    ]);
+    const full = await Used.open("", { localStorage: {
+        getItem: () => null, removeItem() {}, setItem() { throw new Error("full"); } } });
+    await full.do("today");
+    full.sees("before an answer", { "unkept-why": "" });
+    await full.do([best(full.session.state.run.questions[0].roll)]);
+    full.sees("a store without room", { "role of unkept-why": "alert", "unkept-why":
+        "The browser has no more room for what you answer: what is new is there till the page closes." });
 });
 
 test("what counts for the ten, and for a rating", async () => {
@@ -251,7 +374,7 @@ test("what counts for the ten, and for a rating", async () => {
     about("a rating");
     used = await Used.open();
     await used.do("today");
-    const [first, second] = used.session.state.questions;
+    const [first, second] = used.session.state.run.questions;
     for (const [name, does, rating] of [["a play at random loses the mean of all", best(first.roll), "0 19000 1"],
         ["one that loses", `next question, ${losing(second.roll)}`, "56000 37620 2"]]) {
         await used.do(does);
@@ -267,7 +390,7 @@ test("what counts for the ten, and for a rating", async () => {
         const shown = await Used.open("", { kept: memoryOf("bearoff memory 3", `rating ${words}`, ...themes,
             `day ${day} 20 9 1`) });
         equal(`the rating of ${words}`, shown.look("all #today dt, #today dd").slice(4),
-            ["Lost each", "0.050 rolls", "Rating", `${rating} of 100`]);
+            ["Average loss", "0.050 rolls", "Rating", `${rating} of 100`]);
     }
 
     used = await Used.open("#at=1,0,0,1,0,0&guess=1&roll=31");
@@ -279,15 +402,15 @@ test("what counts for the ten, and for a rating", async () => {
     }
     await used.do("go #drill=ace&seed=3&ask=effective");
     used.session.change(giveEstimate, "1");
-    const [[name, count, far, lost]] = used.session.state.memory.themes;
+    const [[name, count, far, lost]] = used.session.state.student.memory.themes;
     equal("an estimate does", [name, count, far, lost > 1000, kept(used).split("\n").at(-1)],
         ["effective", 1, 1, true, `card ${used.session.state.points} - effective 0 ${day + 1} ${lost}`]);
     await used.do("end training, all that is kept");
     equal("in pips", used.look("all #today tbody tr:last-child > *").slice(0, 3).concat(
         used.text("#today tbody tr:last-child td:last-child").replace(/[\d.]+/, "N")), ["EPC", "1", "1", "N pips"]);
-    const counted = () => used.session.state.memory.themes.map(([theme, times]) => `${theme} ${times}`);
+    const counted = () => used.session.state.student.memory.themes.map(([theme, times]) => `${theme} ${times}`);
     await used.do("go #drill=gaps&seed=7&ask=play");
-    await used.do([losing(used.session.state.questions[0].roll)]);
+    await used.do([losing(used.session.state.run.questions[0].roll)]);
     equal("and each drill", counted(), ["effective 1", "gaps 1"]);
     await used.do("go #drill=gaps&seed=8&ask=play, back");
     equal("not the way back to it", counted(), ["effective 1", "gaps 1"]);
@@ -302,7 +425,7 @@ test("what comes back otherwise", async () => {
         about(`a question like one that comes back, ${isRight}`);
         const used = await open(`card 4,1,0,0,0,0 31 low 2 ${day} 56`, "theme low 3 1 56");
         await used.do("today");
-        const [{ points, roll, card }] = used.session.state.questions;
+        const [{ points, roll, card }] = used.session.state.run.questions;
         const due = { points: [4, 1, 0, 0, 0, 0], roll: [3, 1] };
         equal("another position, of its theme", [points.join() === "4,1,0,0,0,0",
             THEMES.find(({ name }) => name === "low").has(points), used.board, card], [false, true, points, due]);
@@ -328,7 +451,7 @@ test("what comes back otherwise", async () => {
     equal("right, it comes after seven days", cards(), [`card 1,2,0,0,0,0 - pips 2 ${day + 7} 2000`]);
     await used.do("next question, estimate=999, tell");
     equal("wrong, the next day", cards().filter((line) =>
-        line.endsWith(`- pips 0 ${day + 1} ${used.session.state.estimates[1].error}`)).length, 1);
+        line.endsWith(`- pips 0 ${day + 1} ${used.session.state.run.estimates[1].error}`)).length, 1);
     await used.do([`go #drill=all&seed=${day}&ask=pips&ten=1,2,0,0,0,0&question=11`]);
     for (let left = 0; used.find("estimate") && left < 12; left += 1) await used.do("next question");
     used.sees("how many come back", { "in coach": comeBack(2) });
@@ -390,7 +513,7 @@ test("nothing in silence", async () => {
         await used.do("go #home, seed=, begin drill");
         const { seed } = used.session.state.drill;
         seeds.push(seed);
-        used.sees("a seed of its own", { "state seedFault": "", "in coach": `Seed ${seed}` });
+        used.sees("a seed of its own", { "state notes": {}, "in coach": `Seed ${seed}` });
     }
     equal("each another, of the size that a link can have", [new Set(seeds).size, seeds.every((seed) =>
         Number.isInteger(seed) && seed > 0 && seed <= 999999999)], [3, true]);

@@ -6,8 +6,8 @@ import { equal, pagePath, part } from "./given.mjs";
 import { newDocument } from "./stand_in.mjs";
 
 const webText = (name) => readFileSync(new URL(`../../web/${name}`, import.meta.url), "utf8");
-const styleText = readdirSync(new URL("../../web/style/", import.meta.url))
-    .map((name) => webText(`style/${name}`)).join("");
+const styleText = readdirSync(new URL("../../web/", import.meta.url), { recursive: true })
+    .filter((name) => name.endsWith(".css")).map(webText).join("");
 const onOneLine = (text) => text.replace(/\s+/g, " ").trim();
 
 part("the language, and how wide a telephone takes the page", () => {
@@ -123,19 +123,19 @@ function contrast(one, other) {
 // points of the board, which are told by their numbers too.
 const STANDS_OUT = [
     [4.5, ["ink on paper", "ink on card", "soft on paper", "soft on card", "ink on accent-soft", "bad on card",
-            "bad on paper", "good on card", "good on paper", "accent on card", "card on accent", "disc-edge on disc"]],
+            "bad on paper", "good on card", "good on paper", "accent on card", "card on accent", "tally on disc",
+            "number on frame", "spot on die"]],
     [3, [
-        "disc on felt", "disc on wedge-odd", "disc on wedge-even", "disc on ground", "disc on card", "ring on halo",
-            "ring on felt", "line on card", "line on paper",
-        "soft on felt", "accent on felt", "accent on accent-soft",
+        "disc on felt", "disc on wedge-odd", "disc on wedge-even", "disc on frame-edge", "disc-edge on disc", "ring on halo",
+            "ring on felt", "line on card", "line on paper", "accent on accent-soft",
     ]],
-    [1.2, ["wedge-odd on felt", "wedge-even on felt", "ground on disc"]],
+    [1.2, ["wedge-odd on felt", "wedge-even on felt"]],
 ];
 
 part("shapes and texts stand out, in the light, in the dark and on paper", () => {
     const schemes = schemesOf(styleText);
     const names = Object.keys(schemes.light).sort();
-    equal("how many colours", names.length, 17);
+    equal("how many colours", names.length, 27);
     for (const [scheme, colours] of Object.entries(schemes)) {
         equal(`${scheme}: each colour`, Object.keys(colours).sort(), names);
         for (const [least, pairs] of STANDS_OUT) {

@@ -4,7 +4,7 @@
 import { spawnSync } from "node:child_process";
 import { readFileSync } from "node:fs";
 import { join } from "node:path";
-import { bearoffs, readMatch } from "../../web/matches.js";
+import { bearoffs, readMatch } from "../../js/matches.js";
 import { equal, part, ROOT, wrong } from "./given.mjs";
 
 const stored = (name) => readFileSync(join(ROOT, "python/tests/matches", name), "utf8");
@@ -42,7 +42,7 @@ function byPage(text) {
         return [match.length, match.names, match.games, match.plays.length, bearoffs(match).map((turn) =>
             [turn.game, turn.move, turn.line, turn.player, turn.dice, turn.text, turn.points, turn.to])];
     } catch (error) {
-        return [error.reason, error.line, error.message];
+        return [error.code, error.line, error.message];
     }
 }
 
@@ -64,6 +64,30 @@ part("the stored matches, and both forms alike", () => {
     equal("bearoff plays", [mat[4].length > 10, sgf[4].map((turn) => turn.slice(6))], [true, mat[4].map((turn) => turn.slice(6))]);
 });
 
+// The rows of tests/matches.txt; and of each its text, its verdict, and the words that it has.
+const rows = readFileSync(join(ROOT, "tests/matches.txt"), "utf8").split("\n").filter((line) => /^[a-z]/.test(line));
+const textOf = (row) => {
+    const [verdict, of, old, now, words] = row.split(/ \| ?/).map(decodeURIComponent);
+    const [name, number] = of.split(" ");
+    const text = { mat: SHORT, sgf: SAVED, head: SAVED.split("\n")[0], text: "" }[name];
+    const lines = number ? text.split("\n") : [text];
+    const at = number ? Number(number) - 1 : 0;
+    if (old !== "" && lines[at].split(old).length !== 2) wrong(`${row}: what it takes the place of stands not once`);
+    lines[at] = old === "" ? lines[at] + now : lines[at].replace(old, () => now);
+    return { row, text: lines.join("\n"), verdict, words };
+};
+
+part("each row of texts of matches", () => {
+    const told = rows.map(textOf);
+    for (const { row, text, verdict, words } of told) {
+        const [first, second, third, ...more] = byPage(text);
+        if (more.length === 0) {
+            equal(row, [`${first} ${second}`, third.startsWith(`line ${second}: `), third.includes(words)], [verdict, true, true]);
+        } else equal(row, [`read ${more[0]} ${more[1].length}`, [first, third, ...second].join(" ")], [verdict, words]);
+    }
+    compare(told.map(({ text }) => text));
+});
+
 part("texts that are nearly matches", () => {
     let state = Number(process.env.SEED) || 20261128;
     const below = (count) => {
@@ -75,7 +99,9 @@ part("texts that are nearly matches", () => {
         "Drops", "Doubles => 2", "Wins 1 point", "Wins 2 points and the match", "and the match", "7 point match", "Game 1",
         "Game 2", "1)", "22)", "Ann : 0", " : 3 ", "; x", ';[Variation "NackGammon"]', "\t", "\n", "\r\n", "0/1", "5/8", "99/1",
         "x", "é", "\u{1F3B2}", "  ", ";B[31aabb]", ";W[double]", "(;GM[6]", ")", "[", "]", "\\", "AB[a]", "MI[length:7]",
-        "RU[Nackgammon]", "RU[Crawford:Jacoby]", "PW[Ann]", "PB[Bo\\]b]", "GM[7]", ";W[52yx]", "B[11]", "y", "z"];
+        "RU[Nackgammon]", "RU[Crawford:Jacoby]", "PW[Ann]", "PB[Bo\\]b]", "GM[7]", ";W[52yx]", "B[11]", "y", "z",
+        "\u0130", "\u0131", "\u017f", "\u212a", "\u0660", "\uff11", "\u00b2", "07", "\0", "\x1b", "\ud800",
+        ..."\v\f\r\x1c\x1f\x85\xa0\u2003\u2028\ufeff\u180e\u200b"];
     const changed = (text) => {
         let made = text;
         for (let count = 1 + below(3); count > 0; count -= 1) {
@@ -94,9 +120,7 @@ part("texts that are nearly matches", () => {
         return made;
     };
     const texts = Array.from({ length: 1500 }, () => changed(one(FILES)));
-    const told = compare(texts);
-    equal("each is met", ["illegal", "malformed", "turn", "variation"].filter((reason) =>
-        !told.some(([first]) => first === reason)), []);
-    compare(["", "\ufeff", "(", "()", "(;)", "7 point match", `7 point match\n${"x".repeat(1001)}`, `;${"x".repeat(1001)}`,
-        `${SHORT}\n\n`, `\ufeff${SHORT}`, SHORT.replaceAll("\n", "\r\n"), SHORT.replaceAll(" ", "\t"), ` \n${SAVED}`]);
+    compare(texts);
+    compare([`7 point match\n${"x".repeat(1001)}`, `;${"x".repeat(1001)}`, `${SHORT}\n\n`, SHORT.replaceAll("\n", "\r\n"),
+        SHORT.replaceAll("\n", "\r"), SHORT.replaceAll(" ", "\t"), ` \n${SAVED}`]);
 });

@@ -3,25 +3,28 @@
 import assert from "node:assert/strict";
 import { test } from "node:test";
 import {
-    answered, askedOn, BOXES, DAILY, dayOf, dayOfTen, dueOn, EMPTY, isDoneOn, isKnown, learnt, levelOf, MOST_CARDS,
-    MOST_DAYS, MOST_LETTERS,
-    ratingOf, readMemory, Store, streak, todays, todaysEstimates, VERSION, weakest, written,
-} from "../../web/memory.js";
-import { drawQuestions, drillOf, mostOf, readDue, TEN, writeDue } from "../../web/questions.js";
-import { positions, themeOf, THEMES } from "../../web/themes.js";
+    answered, askedOn, BOXES, DAILY, dayOf, dayOfTen, dueOn, EMPTY, holdsLess, interrupted, isDoneOn, isWeakest,
+    learnt, levelOf, MOST_CARDS, MOST_DAYS, MOST_LETTERS, nextTheme, ratingOf, readMemory, Store, streak, todays,
+    todaysEstimates, VERSION, written,
+} from "../../web/home/memory.js";
 import { readLink, writeLink } from "../../web/link.js";
 import { ROLLS } from "../../web/points.js";
+import { drawQuestions, drillOf, mostOf, readDue, TEN, writeDue } from "../../web/question/questions.js";
+import { positions, themeOf, THEMES } from "../../web/question/themes.js";
 import { drawFrom } from "./stand_in.mjs";
 
 const question = (number = 0, theme = "all") =>
         ({ points: [number % 6, 2, Math.floor(number / 6) % 6, 0, 1, Math.floor(number / 36) % 4], roll: [3, 1],
         theme });
 const missed = (number, lost = 56, theme = "all") => ({ ...question(number, theme), lost, random: 20, level: "easy",
-        isMissed: true, ten: 0 });
+        isMissed: true });
 const right = (number, theme = "all") => ({ ...question(number, theme), lost: 0, random: 20, level: "easy",
-        isMissed: false, ten: 0 });
+        isMissed: false });
 const estimate = (lost, isMissed, kind = "effective") => ({ points: [1, 2, 3, 0, 0, 0], roll: null, theme: kind, lost,
-        isMissed, ten: 0 });
+        isMissed });
+// The last answer of the ten of a day.
+const lastOf = (answer, day) => ({ ...answer, run: { count: 1, picks: [[answer.points, answer.roll, "6/off"]],
+    drill: drillOf({ theme: "all", seed: day, ask: "play", due: [] }) } });
 const faultOf = (...lines) => readMemory(["bearoff memory 1", ...lines].join("\n")).fault;
 
 test("a miss comes back after 1, 3, 7, 21 and 60 days, and is learnt then", () => {
@@ -53,7 +56,7 @@ test("right before it is due changes nothing of it, and a miss takes it one box 
 test("what comes back counts for the theme of its own, and an estimate for what was estimated", () => {
     let memory = answered(EMPTY, missed(0, 56, "gaps"), 100);
     memory = answered(memory, right(0, "low"), 101);
-    memory = answered(answered(memory, right(1, "low"), 101), { ...estimate(2100, true), ten: 101 }, 101);
+    memory = answered(answered(memory, lastOf(right(1, "low"), 101), 101), estimate(2100, true), 101);
     assert.deepEqual(memory.themes, [["gaps", 2, 1, 56], ["low", 1, 0, 0], ["effective", 1, 1, 2100]]);
     assert.deepEqual(memory.days, [[100, 1, 1, 0], [101, 3, 1, 1]]);
     assert.deepEqual([memory.cards.length, memory.sizes, askedOn(memory, 101), askedOn(memory, 99)],
@@ -109,7 +112,7 @@ function known(day) {
     let memory = answered(EMPTY, missed(0, 56, "low"), day - 4);
     for (const then of [day - 3, day]) memory = answered(memory, right(0, "gaps"), then);
     // on a level on which the stand-in has questions
-    return { ...memory, levels: [...DAILY.map((name) => [name, name === "fewer" ? "hard" : "mixed", ""])] };
+    return { ...memory, levels: [...DAILY.map((name) => [name, name === "fewer" ? "hard" : "mixed", "", 0, 0, 90])] };
 }
 
 // A student's theme after so many answers on its level.
@@ -124,24 +127,40 @@ test("the first ten go up from easy ones, and then the level of a theme follows 
     const drawn = drawQuestions(drillOf({ theme, level, seed: 100, ask: "play", due: [] }), ROLLS, ladderPlays);
     assert.deepEqual(drawn.map(({ points, roll }) => most(ladderPlays(points, roll))),
         [90, 90, 90, 90, 90, ...drawn.slice(5, 8).map(({ points, roll }) => most(ladderPlays(points, roll))), 30, 30]);
-    const [nine, ten] = [9, 10].map((count) => climbing("gaps", "easy", ...Array(count).fill(true)));
-    assert.deepEqual([nine, ten].map((memory) => levelOf(memory, "gaps")), ["easy", "any"]);
-    assert.deepEqual([nine.levels, ten.levels], [[["gaps", "easy", "111111111"]], [["gaps", "any", ""]]]);
+    const rows = (memory) => memory.levels.map((row) => row.slice(0, 3));
+    const [five, six] = [5, 6].map((count) => climbing("gaps", "easy", ...Array(count).fill(true)));
+    assert.deepEqual([five, six].map((memory) => levelOf(memory, "gaps")), ["easy", "any"]);
+    assert.deepEqual([five, six].map(rows), [[["gaps", "easy", "11111"]], [["gaps", "any", ""]]]);
+    // the first ten lead further at once, by how many were missed
+    assert.deepEqual([0, 2, 3, 4, 5, 10].map((missed) => rows(climbing("all", "first",
+        ...Array.from({ length: 10 }, (_, place) => place >= missed)))[0].slice(1)),
+    ["mixed", "mixed", "any", "any", "easy", "easy"].map((name, place) => [name,
+        name === "easy" ? ["0000011111", "0000000000"][place - 4] : ""]));
+    assert.deepEqual(rows(climbing("all", "first", ...Array(9).fill(true))), [["all", "easy", "111111111"]]);
+    // a theme that wasn't asked yet begins where two others are, or the only one
+    const reached = (...levels) => ({ ...EMPTY, levels: levels.map((name, place) => [DAILY[place], name, "", 0, 0, 7]) });
+    assert.deepEqual([[], ["mixed"], ["mixed", "any"], ["any", "easy", "mixed"], ["hard", "mixed", "hard"]].map((levels) =>
+        ["few", "fewer"].map((name) => levelOf(reached(...levels), name))), [["easy", "any"], ["mixed", "any"], ["any", "any"],
+        ["any", "any"], ["hard", "hard"]]);
+    // what was lost of what plays at random would have lost fades, on any level
+    assert.deepEqual(answered(climbing("gaps", "hard", true, false), { ...missed(9, 30, "gaps"), level: "any" }, 8).levels,
+        [["gaps", "easy", "", 56000 - 2800 + 30000, 39000 - 1950 + 20000, 8]]);
     // three of four stay, and so do answers of another level; under two of five go down, and the ends are ends
     const quarters = [false, true, true, true];
     assert.deepEqual(climbing("gaps", "easy", ...quarters, ...quarters, ...quarters, ...quarters, ...quarters, ...quarters)
-        .levels, [["gaps", "easy", "01110111011101110111"]]);
-    assert.deepEqual(climbing("gaps", "hard", ...Array(20).fill(true)).levels, []);
-    const at = (name, answers) => ({ ...EMPTY, levels: [["gaps", name, answers]] });
+        .levels[0][2], "01110111011101110111");
+    assert.deepEqual(rows(climbing("gaps", "hard", ...Array(20).fill(true))), [["gaps", "easy", ""]]);
+    const at = (name, answers) => ({ ...EMPTY, levels: [["gaps", name, answers, 0, 0, 7]] });
     const next = (memory, isRight) => answered(memory, { ...(isRight ? right : missed)(1, 56, "gaps"), theme: "gaps",
-        level: levelOf(memory, "gaps") }, 7).levels[0];
+        level: levelOf(memory, "gaps") }, 7).levels[0].slice(0, 3);
     assert.deepEqual([next(at("any", "000000111"), false), next(at("any", "000001111"), false),
-        next(at("easy", "000000000"), false), next(at("hard", "111111111"), true)],
-    [["gaps", "easy", ""], ["gaps", "any", "0000011110"], ["gaps", "easy", "0000000000"], ["gaps", "hard", "1111111111"]]);
+        next(at("any", "00000011"), false), next(at("easy", "000000000"), false), next(at("hard", "111111111"), true)],
+    [["gaps", "easy", ""], ["gaps", "any", "0000011110"], ["gaps", "any", "000000110"], ["gaps", "easy", "0000000000"],
+        ["gaps", "hard", "1111111111"]]);
     assert.deepEqual([levelOf(EMPTY, "fewer"), levelOf(EMPTY, "low")], ["any", "easy"]);
     // what comes back says nothing of new ones
     const back = answered(answered(EMPTY, missed(0, 56, "gaps"), 1), right(0, "gaps"), 2);
-    assert.deepEqual(back.levels, [["gaps", "easy", "0"]]);
+    assert.deepEqual(rows(back), [["gaps", "easy", "0"]]);
 });
 
 // Plays of which the first is best, and what the other loses goes by the roll.
@@ -183,7 +202,7 @@ const drawnPlays = [{ isBest: true, to: [1, 0, 0, 0, 0, 0], loss: 0n },
 
 test("an answer to a question like it counts for the one that comes back", () => {
     const [memory, like] = [known(100), { points: [9, 0, 0, 0, 0, 0], roll: [6, 5], theme: "all", random: 0,
-            level: "easy", card: { points: question(0).points, roll: [3, 1] }, ten: 0 }];
+            level: "easy", card: { points: question(0).points, roll: [3, 1] } }];
     const rightly = answered(memory, { ...like, lost: 0, isMissed: false }, 107);
     assert.deepEqual(rightly.cards, [{ ...question(0), theme: "low", box: 3, due: 128, lost: 56 }]);
     assert.deepEqual(rightly.themes, [["low", 4, 1, 56]]);
@@ -278,8 +297,8 @@ test("what is missed comes back tomorrow, and no more waits than a student can a
             asked.forEach(({ points, roll }, place) => {
                 const isMissed = below(100) >= (place < due.length ? again : fresh);
                 if (isMissed) last.set(`${points} ${roll}`, day);
-                memory = answered(memory, { points, roll, theme, lost: isMissed ? 50 : 0, random: 30, isMissed,
-                    ten: place === TEN - 1 ? dayOfTen(todays(EMPTY, day)) : 0 }, day);
+                const answer = { points, roll, theme, lost: isMissed ? 50 : 0, random: 30, isMissed };
+                memory = answered(memory, place === TEN - 1 ? lastOf(answer, day) : answer, day);
             });
         }
         assert.ok(back >= 0, `of ${fresh} and ${again} in a hundred fewer than 95 % came back the next day`);
@@ -288,16 +307,26 @@ test("what is missed comes back tomorrow, and no more waits than a student can a
     }
 });
 
-test("the theme that loses most for each answer, once each is known", () => {
-    const rows = DAILY.map((name) => [name, 5, 1, 10]);
-    const of = (...more) => ({ ...EMPTY, themes: [...rows.filter(([name]) => !more.some(([other]) => other === name)),
-            ...more] });
-    assert.equal(weakest(of(["gaps", 10, 1, 30], ["low", 5, 1, 16]), 3), "low");
-    assert.equal(weakest(of(["gaps", 10, 1, 40], ["low", 5, 1, 16], ["effective", 5, 5, 99999], ["board", 5, 5, 9999]),
-            3), "gaps");
-    assert.deepEqual([weakest(of(["gaps", 4, 4, 999]), 3), isKnown(of(["gaps", 4, 4, 999])), isKnown(of())],
-        ["gaps", false, true]);
-    assert.deepEqual(DAILY.map((_, day) => weakest(EMPTY, day)), DAILY);
+test("whose turn it is: who waits longest, and a day counts more where more is lost", () => {
+    // what a theme's last answers lost of what plays at random would have, in thousandths, and their last day
+    const of = (...more) => ({ ...EMPTY, levels: DAILY.map((name) =>
+        more.find(([other]) => other === name) ?? [name, 0, 5]).map(([name, lost, day]) =>
+        [name, "any", "", 1000 * lost, 1_000_000, day]) });
+    assert.equal(nextTheme(of(["gaps", 0, 3]), 6), "gaps");
+    // a day counts up to three times, and hardly more than once where little is lost
+    assert.equal(nextTheme(of(["low", 300, 9], ["gaps", 30, 6]), 10), "all");
+    assert.equal(nextTheme(of(["low", 300, 8], ["gaps", 30, 6]), 10), "low");
+    // what plays at random lose is the measure, so a hard level counts like an easy one
+    const easy = ["gaps", "easy", "", 100_000, 1_000_000, 7];
+    const hard = ["low", "mixed", "", 30_000, 100_000, 7];
+    const two = { ...EMPTY, levels: [...of().levels.filter(([name]) => !["gaps", "low"].includes(name)), easy, hard] };
+    assert.deepEqual([nextTheme(two, 10), isWeakest(two, "low"), isWeakest(two, "gaps"), isWeakest(of(), "gaps")],
+        ["low", true, false, false]);
+    // those that were never asked come first, in turn
+    const without = { ...EMPTY, levels: of().levels.filter(([name]) => !["gaps", "few"].includes(name)) };
+    assert.deepEqual([10, 11].map((day) => nextTheme(without, day)), ["gaps", "few"]);
+    assert.equal(isWeakest(without, "low"), false);
+    assert.deepEqual(DAILY.map((_, day) => nextTheme(EMPTY, day)), DAILY);
     assert.deepEqual(DAILY, ["all", "low", "gaps", "middle", "high", "few", "fewer"]);
     // before there were levels each day asked the same one, which is called hard where none is mixed
     const { memory } = readMemory(["bearoff memory 3", ...DAILY.map((name) => `theme ${name} 5 1 10`)].join("\n"));
@@ -305,8 +334,49 @@ test("the theme that loses most for each answer, once each is known", () => {
         ["mixed", "any", "mixed", "mixed", "mixed", "mixed", "hard"].map((level, place) => (place === 1 ? "mixed" : level)));
 });
 
+test("over half a year each theme has its turn, the worst the most, and who plays well meets the hard ones in a week", () => {
+    const all = positions(44);
+    const LOST = { easy: [296, 261], any: [178, 224], mixed: [31, 146], hard: [29, 141] }; // by a miss, and at random
+    // the share of each theme among the new questions, and the day of the first hard one
+    function halfAYear([right, again], weak, start) {
+        let [memory, seed, hard, sum] = [EMPTY, start, 999, 0];
+        const below = (count) => {
+            seed = (48271 * seed) % 2147483647;
+            return Math.floor((seed / 2147483647) * count);
+        };
+        const asked = new Map(DAILY.map((name) => [name, 0]));
+        for (let day = 20000; day < 20180; day += 1) {
+            const { due, theme, level = "any" } = todays(memory, day);
+            asked.set(theme, asked.get(theme) + TEN - due.length);
+            sum += TEN - due.length;
+            if (level === "hard" && due.length < TEN) hard = Math.min(hard, day - 19999);
+            for (let place = 0; place < TEN; place += 1) {
+                const one = due[place] ?? { points: all[1 + below(all.length - 1)], roll: ROLLS[below(21)] };
+                const at = place < due.length ? "mixed"
+                    : level === "first" ? (place < 5 ? "easy" : place < 8 ? "any" : "mixed") : level;
+                const isMissed = below(100) >= (place < due.length ? again
+                    : right[Object.keys(LOST).indexOf(at)] * (theme === weak ? 0.8 : 1));
+                memory = answered(memory, { points: one.points, roll: one.roll, theme: place < due.length ? one.theme ?? theme : theme,
+                    lost: isMissed ? LOST[at][0] : 0, random: LOST[at][1], isMissed, level,
+                    ...(one.theme ? { card: { points: one.points, roll: one.roll } } : {}) }, day);
+            }
+        }
+        return { shares: DAILY.map((name) => asked.get(name) / sum), hard };
+    }
+    const [STRONG, CLUB, BEGINNER] = [[[98, 95, 85, 70], 95], [[93, 88, 60, 50], 80], [[75, 65, 35, 30], 60]];
+    for (const [student, soonest] of [[STRONG, 7], [CLUB, 60], [BEGINNER, 999]]) {
+        const { shares, hard } = halfAYear(student, null, 7919);
+        assert.ok(Math.min(...shares) >= 0.05 && Math.max(...shares) <= 0.35, `${student}: ${shares}`);
+        assert.ok(hard <= soonest, `${student}: the first hard question on day ${hard}`);
+    }
+    for (const [student, weak] of [[STRONG, "gaps"], [CLUB, "few"]]) {
+        const shares = [1, 2, 3].map((run) => halfAYear(student, weak, 7919 * run).shares[DAILY.indexOf(weak)]);
+        assert.ok(shares.reduce((sum, one) => sum + one) / 3 >= 0.2, `${student}, a fifth worse in ${weak}: ${shares}`);
+    }
+});
+
 test("ten are done by these ten alone, on their day or the next one", () => {
-    const done = (ten, day) => isDoneOn(answered(EMPTY, { ...right(0), ten }, day), ten);
+    const done = (ten, day) => isDoneOn(answered(EMPTY, lastOf(right(0), ten), day), ten);
     assert.deepEqual([[7, 7], [7, 8], [7, 9], [8, 7]].map(([ten, day]) => done(ten, day)), [true, true, false, false]);
     const memory = Array.from({ length: 30 }).reduce((so, _, place) => answered(so, right(place), 7), EMPTY);
     assert.deepEqual([askedOn(memory, 7), isDoneOn(memory, 7), dayOfTen(todays(memory, 7)), todays(memory, 7).seed === 7],
@@ -387,25 +457,75 @@ test("a link has what comes back, and what can't be taken is said", () => {
 
 test("the text comes back", () => {
     let memory = answered(answered(EMPTY, missed(3, 56, "gaps"), 20000), estimate(2100, true), 20001);
-    memory = { ...answered(memory, { ...right(3), ten: 20001 }, 20001), learnt: 4 };
+    memory = { ...answered(memory, lastOf(right(3), 20001), 20001), learnt: 4 };
     assert.equal(written(memory), [
-        "bearoff memory 4", "learnt 4", "sizes 0 1 0", "rating 54880 39600 2", "level gaps easy 0", "theme gaps 2 1 56",
+        "bearoff memory 5", "learnt 4", "sizes 0 1 0", "rating 54880 39600 2", "level gaps easy 0 56000 20000 20000",
+            "theme gaps 2 1 56",
             "theme effective 1 1 2100", "day 20000 1 1 0", "day 20001 2 1 1",
-        "card 1,2,3,0,0,0 - effective 0 20002 2100", "card 3,2,0,0,1,0 31 gaps 1 20004 56",
+        "card 1,2,3,0,0,0 - effective 0 20002 2100", "card 3,2,0,0,1,0 31 gaps 1 20004 56", "ten all 20001 play any - done",
     ].join("\n"));
     assert.deepEqual(readMemory(written(memory)), { memory, fault: "" });
     assert.deepEqual(readMemory(`\ufeff${written(memory).replaceAll("\n", "\r\n")}\r\n`).memory, memory);
     assert.deepEqual(readMemory(written(EMPTY)).memory, EMPTY);
-    const levels = [["gaps", "mixed", ""]];
+    const levels = [["gaps", "mixed", "", 0, 0, 0]];
     // a text of the first version, which had no estimates that come back, or of the second, which had no rating, is
     // read as it is
-    const [first, second] = [/ - |^rating|^level/, /^rating|^level/].map((none, place) => written(memory).replace("memory 4",
+    const [first, second] = [/ - |^rating|^level|^ten/, /^rating|^level|^ten/].map((none, place) => written(memory).replace("memory 5",
             `memory ${place + 1}`).split("\n").filter((line) => !none.test(line)).join("\n"));
     assert.deepEqual(readMemory(first).memory,
-        { ...memory, rating: EMPTY.rating, levels, cards: memory.cards.filter(({ roll }) => roll) });
-    assert.deepEqual(readMemory(second).memory, { ...memory, rating: EMPTY.rating, levels });
+        { ...memory, rating: EMPTY.rating, levels, tens: [], cards: memory.cards.filter(({ roll }) => roll) });
+    assert.deepEqual(readMemory(second).memory, { ...memory, rating: EMPTY.rating, levels, tens: [] });
     assert.deepEqual(readMemory(second.replace("memory 2", "memory 3")).memory.levels, levels);
+    // a level of version 4 had nothing of what was lost
+    assert.deepEqual(readMemory("bearoff memory 4\nlevel gaps any 01").memory.levels, [["gaps", "any", "01", 0, 0, 0]]);
     for (const { name } of THEMES) assert.equal(faultOf(`theme ${name} 1 1 1`), "");
+});
+
+test("ten that were interrupted, as text, till when they are offered, and each answer counts once", () => {
+    const pointsOf = (number) => question(number).points;
+    const ten = { drill: drillOf({ theme: "gaps", seed: 120784, ask: "play", level: "easy",
+        due: [{ points: [4, 1, 0, 0, 0, 0], roll: [3, 1], theme: "low" }] }), isDone: false,
+    picks: [[[0, 0, 4, 0, 0, 0], [3, 3], "3/off(4)"], [pointsOf(0), [3, 1], "5/2 1/off"]] };
+    const numbers = { drill: drillOf({ theme: "all", seed: 20784, ask: "wastage", due: [] }), isDone: false,
+        picks: [[pointsOf(1), "wastage", "-1500"]] };
+    const run = ({ drill, picks }, count = 10) => ({ drill, picks, count });
+    const guessed = { ...estimate(0, false, "wastage"), points: pointsOf(1), run: run(numbers) };
+    const memory = answered(answered(EMPTY, { ...right(0), run: run(ten) }, 20784), guessed, 20784);
+    assert.deepEqual([memory.tens, written(memory).split("\n").slice(-5)], [[ten, numbers], [
+        "ten gaps 120784 play easy low-4,1,0,0,0,0,31", "pick 0,0,4,0,0,0 33 3/off(4)", "pick 0,2,0,0,1,0 31 5/2_1/off",
+        "ten all 20784 wastage any -", "pick 1,2,0,0,1,0 wastage -1500"]]);
+    assert.deepEqual(readMemory(written(memory)), { memory, fault: "" });
+    assert.deepEqual([20783, 20784, 20785, 20786].map((day) => [interrupted(memory, day), interrupted(memory, day, false)]),
+        [[null, null], [ten, numbers], [ten, numbers], [null, null]]);
+    // another page answers the same, or another question of the same ten, and then the last
+    const next = { ...right(2), run: run({ ...ten, picks: [[pointsOf(2), [3, 1], "6/off"]] }) };
+    const both = answered(memory, next, 20784);
+    assert.deepEqual([answered(memory, { ...right(0), run: run(ten) }, 20784), answered(both, next, 20784), answered(memory, guessed, 20784)],
+        [memory, both, memory]);
+    assert.deepEqual([askedOn(both, 20784), both.tens.at(-1).picks.length, isDoneOn(both, 20784)], [3, 3, false]);
+    const done = answered(both, { ...right(3), run: { ...next.run, picks: [[pointsOf(3), [3, 1], "6/off"]], count: 4 } }, 20785);
+    assert.deepEqual([isDoneOn(done, 20784), interrupted(done, 20785), done.tens.at(-1).isDone, answered(done, next, 20785)],
+        [true, null, true, done]);
+    assert.deepEqual(readMemory(written(done)), { memory: done, fault: "" });
+    // ten estimates are not today's ten
+    const last = { ...guessed, points: pointsOf(4), run: { ...run(numbers, 2), picks: [[pointsOf(4), "wastage", "0"]] } };
+    const guesses = answered(memory, last, 20784);
+    assert.deepEqual([guesses.tens.at(-1).isDone, isDoneOn(guesses, 20784)], [true, false]);
+    for (const lines of [["pick 3,2,0,0,1,0 31 5/2"], ["ten gaps 0 play easy -"], ["ten none 7 play easy -"],
+        ["ten gaps 7 play easy x"], ["ten ace 7 play any -"], ["ten gaps 7 play easy -", "ten low 8 play any -"],
+        ["ten gaps 7 play easy -", "pick 3,2,0,0,1,0 13 5/2"], ["ten gaps 7 play easy -", "pick 3,2,0,0,1,0 pips 5"],
+        ["ten gaps 7 play easy -", "pick 3,2,0,0,1 31 5/2"], ["ten gaps 7 play easy -", "pick 3,2,0,0,1,0 31 <b>"],
+        ["ten gaps 7 play easy - done", "pick 3,2,0,0,1,0 31 5/2"],
+        ["ten gaps 7 play easy -", ...Array(10).fill("pick 3,2,0,0,1,0 31 5/2")]]) {
+        assert.equal(faultOf(...lines), `Line ${lines.length + 1} can't be read.`, lines.join());
+    }
+});
+
+test("whether one memory holds less than another one", () => {
+    const [one, more] = [answered(EMPTY, missed(0), 7), answered(answered(EMPTY, missed(0), 7), right(1), 7)];
+    assert.deepEqual([[EMPTY, one], [one, more], [more, one], [one, one], [EMPTY, EMPTY],
+        [answered(one, right(0), 8), { ...more, learnt: 1 }]].map(([is, than]) => holdsLess(is, than)),
+        [true, true, false, false, false, true]);
 });
 
 test("a text with a fault is refused whole, by the number of its line", () => {
@@ -453,7 +573,12 @@ test("two pages of a browser bring theirs together", () => {
     const both = other.change(EMPTY, (memory) => answered(memory, missed(2), 10));
     assert.deepEqual([first.cards.length, both.cards.length, both.days], [1, 2, [[10, 2, 2, 0]]]);
     assert.deepEqual([one.read(first), [...localStorage.kept.keys()], one.why], [both, ["bearoff memory"], ""]);
-    assert.deepEqual([one.forget(), localStorage.kept.size, other.read(both)], [EMPTY, 0, EMPTY]);
+    assert.deepEqual([one.forget(both), localStorage.kept.size, other.read(both)], [EMPTY, 0, EMPTY]);
+    // what was there can be had back, and then what was there after it
+    const anew = other.change(EMPTY, (memory) => answered(memory, missed(3), 11));
+    assert.deepEqual([one.undo(anew), other.read(anew)], [both, both]);
+    assert.deepEqual([one.undo(both), other.read(both)], [anew, anew]);
+    assert.deepEqual([one.take(anew, first), one.undo(first), other.read(first)], [first, anew, anew]);
     assert.deepEqual(["bearoff memory", null, "other"].map(Store.isAbout), [true, true, false]);
 });
 
@@ -463,7 +588,7 @@ test("without a store the page has a memory of its own", () => {
         const memory = store.change(EMPTY, (own) => answered(own, missed(1), 10));
         assert.equal(store.change(memory, (own) => answered(own, missed(2), 10)).cards.length, 2);
         assert.match(store.why, /^This browser keeps nothing for the page/);
-        assert.deepEqual([store.forget(), store.why !== ""], [EMPTY, true]);
+        assert.deepEqual([store.forget(memory), store.why !== "", store.undo(EMPTY)], [EMPTY, true, memory]);
     }
     // a store that becomes full keeps what it had, and the page goes on
     const localStorage = storage();
@@ -473,6 +598,7 @@ test("without a store the page has a memory of its own", () => {
     for (const number of [2, 3]) memory = store.change(memory, (own) => answered(own, missed(number), 10));
     assert.deepEqual([memory.cards.length, readMemory(localStorage.kept.get("bearoff memory")).memory.cards.length],
         [3, 1]);
+    assert.match(store.why, /no more room/);
 });
 
 test("what a newer page has kept stays as it is", () => {
@@ -482,9 +608,12 @@ test("what a newer page has kept stays as it is", () => {
         const memory = store.change(EMPTY, (own) => answered(own, missed(1), 10));
         assert.deepEqual([memory.cards.length, localStorage.kept.get("bearoff memory")], [1, text]);
         assert.match(store.why,
-            /^What is kept here can't be read, and stays as it is\. (It is of version 5|Line 2 can't)/);
+            /^What is kept here can't be read, and stays as it is\. (It is of version 6|Line 2 can't)/);
         // until all is forgotten
-        assert.deepEqual([store.forget(), store.why, localStorage.kept.size], [EMPTY, "", 0]);
+        assert.deepEqual([store.forget(memory), store.why, localStorage.kept.size], [EMPTY, "", 0]);
+        store.undo(EMPTY);
+        assert.equal(localStorage.kept.get("bearoff memory"), text);
+        store.forget(EMPTY);
         assert.equal(store.change(EMPTY, (own) => answered(own, missed(1), 10)).cards.length, 1);
         assert.equal(localStorage.kept.size, 1);
     }

@@ -6,14 +6,14 @@ import { mkdtempSync, readFileSync, rmSync, writeFileSync } from "node:fs";
 import { tmpdir } from "node:os";
 import { join } from "node:path";
 import { gunzipSync, gzipSync } from "node:zlib";
-import { playsOf } from "../../web/answers.js";
-import { decimalOf } from "../../web/fractions.js";
+import { allRolls, answer, playsOf } from "../../web/board/asks.js";
 import { readPoints, ROLLS, sumOf } from "../../web/points.js";
-import { decimal, FAULTS, notation } from "../../web/texts.js";
-import { drillOf, followingOf, kindsOf } from "../../web/questions.js";
+import { drawn } from "../../web/question/asks.js";
+import { drillOf, followingOf, kindsOf } from "../../web/question/questions.js";
+import { levelsOf, positions, themeOf, THEMES } from "../../web/question/themes.js";
 import { ADDITIONS } from "../../web/rules.js";
-import { levelsOf, positions, themeOf, THEMES } from "../../web/themes.js";
-import { answer, Desk, drawn, rollsOf, serve } from "../../web/worker.js";
+import { decimal, decimalOf, FAULTS, notation } from "../../web/texts.js";
+import { Desk, serve } from "../../web/worker.js";
 import { effectOf, equal, isJoined, linesOf, modulesFolder, part, programPath, testedFolder, wrong } from "./given.mjs";
 
 const program = programPath();
@@ -108,10 +108,10 @@ function compareLines(database, bound) {
     });
     for (const kind of ["mean", "dist", "play", "moves", "error"]) seen[kind]
         || wrong(`no reply ${kind} over ${bound} pips`);
-    const rolls = rollsOf(database, [1, 0, 0, 0, 0, 1]);
+    const rolls = allRolls(database, [1, 0, 0, 0, 0, 1]);
     equal("how many rolls", rolls.map(({ dice }) => dice.join("")).join(), ROLLS.map((dice) => dice.join("")).join());
     equal("the plays of a roll", rolls[1].plays.map(({ to }) => `${to}`).sort().join(" "), "0,0,0,1,0,0 1,0,1,0,0,0");
-    equal("no rolls without checkers", rollsOf(database, [0, 0, 0, 0, 0, 0]).length, 0);
+    equal("no rolls without checkers", allRolls(database, [0, 0, 0, 0, 0, 0]).length, 0);
 }
 
 // A built database answers as the program's file does.

@@ -1,10 +1,10 @@
-// The package for JavaScript, as it is put down: it answers what the program is asked, every
+// The package for JavaScript, as installed: it answers what the program is asked, every
 // position of 8 pips and a thousand of 44 and of 58, by each call, by lines and in whole tables;
 // board files, beside replies that were computed outside and beside databases;
 // hostile arguments of each kind; a thousand openings in one process; positions in other
 // notations, which GNU Backgammon has written and read; its types under tsc --strict, with lines
-// that may not compile; the examples of docs/embedding.md and of js/README.md; and in Chromium,
-// where it is installed, as a module in a page and in a worker, and in a bundle of esbuild. What is
+// that may not compile; the examples of docs/embedding.md and of js/README.md; and in the browsers
+// that are installed, as a module in a page and in a worker, and in a bundle of esbuild. What is
 // tried is what its archive has.
 import assert from "node:assert/strict";
 import { spawnSync } from "node:child_process";
@@ -16,17 +16,17 @@ import { join } from "node:path";
 import { after, test } from "node:test";
 import { pathToFileURL } from "node:url";
 import { installed } from "./browser.mjs";
-import { modulesFolder, programPath, ROOT, testedFolder } from "./given.mjs";
+import { modulesFolder, pagePath, programPath, ROOT, testedFolder } from "./given.mjs";
 
 const WIDE = "--experimental-wasm-memory64";
 const TYPED = "XGID=-C--B-A------------d--cba-:0:0:-1:21:0:0:0:0:10 AAAA2vEAAAAAAA:cAkFAAAAAAAE top 21; 38; "
     + "malformed; 5; 4; 6/4 4/3; 0,0,1,0,0,0; 0; 0,0,0,0,0,1; 1.000; 2; 101/24; 3/4; true; 6.208; 0.75; damaged too-short "
     + "header too-short; 10208; true; 1250; "
-    + '[{"numerator":"5","denominator":"4","thousandths":1250},{"numerator":"0","denominator":"1"}]\n';
+    + '[{"numerator":"5","denominator":"4","value":1.25,"thousandths":1250},{"numerator":"0","denominator":"1","value":0}]\n';
 // what belongs in the package, and nothing else
 const BELONGS = [
-    "README.md", "package.json", "wide.wasm", "narrow.wasm",
-    ...["bearoff", "notation"].flatMap((name) => [`${name}.js`, `${name}.d.ts`, `${name}.d.cts`]),
+    "README.md", "THIRD-PARTY-LICENCES.txt", "package.json", "wide.wasm", "narrow.wasm",
+    ...["bearoff", "matches", "notation"].flatMap((name) => [`${name}.js`, `${name}.d.ts`, `${name}.d.cts`]),
     ...["abilities", "checks", "database", "engine", "errors", "fractions", "given", "kinds", "modules", "numbers"]
         .map((name) => `${name}.js`),
 ].sort();
@@ -90,6 +90,12 @@ test("it has what belongs there, and nothing else", () => {
     assert.deepEqual(readdirSync(folder).sort(), BELONGS);
 });
 
+test("the licences of others", () => {
+    const licences = readFileSync(join(ROOT, "packaging/third-party-licences.txt"), "utf8");
+    assert.equal(readFileSync(join(folder, "THIRD-PARTY-LICENCES.txt"), "utf8"), licences);
+    assert.ok(readFileSync(pagePath(), "utf8").endsWith(`<!--\n${licences}-->\n</html>\n`));
+});
+
 test("npm would pack what belongs there", { skip: skip("npm") }, () => {
     const told = run(["npm", "pack", "--dry-run", "--offline", "--json"],
         { cwd: join(made[0], "package"), env: { ...process.env, HOME: work } });
@@ -140,7 +146,7 @@ test("what is written as CommonJS", {
 }, () => {
     run(["tsc", "--project", "."], { cwd: site });
     assert.equal(run([process.execPath, "typed_common.cjs"], { cwd: site }),
-        '1.25 malformed {"numerator":"5","denominator":"4","thousandths":1250}\n');
+        '1.25 malformed {"numerator":"5","denominator":"4","value":1.25,"thousandths":1250}\n');
 });
 
 test("the example of docs/embedding.md", () => {
@@ -154,11 +160,11 @@ test("the examples of js/README.md", () => {
         "assert.deepStrictEqual(structuredClone($1), $2);");
     const tables = "assert.deepStrictEqual([means, points, shares].map((table) => table.length / 26314), [1, 6, 23]);";
     const text = `import assert from "node:assert";\n${told}${tables}\n`;
-    assert.equal(text.match(/^assert/gm).length, 15, "js/README.md has no examples that tell fourteen answers");
+    assert.equal(text.match(/^assert/gm).length, 16, "js/README.md has no examples that tell fifteen answers");
     writeFileSync(join(site, "readme.js"), text);
     assert.equal(run([process.execPath, "readme.js"], { cwd: site }), "");
 });
 
-test("in Chromium", {
-    skip: installed() ? false : "chromium is not installed, and can't be had from Debian",
+test("in browsers", {
+    skip: installed() || installed("firefox") ? false : "no browser is installed, and none can be had from Debian",
 }, () => { script("browser.mjs"); });

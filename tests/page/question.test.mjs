@@ -1,16 +1,16 @@
 // What is asked, without a browser: which questions are drawn, and how a play is made on the board, by clicks and keys;
 // and lessons: their steps, estimates and values, one on paper, and one that is made on the page.
+import { reachedBy, ways } from "../../web/board/steps.js";
+import { measuredOf } from "../../web/lesson/state.js";
+import { meanOf, readEstimate, readLessons, writeLesson } from "../../web/lesson/text.js";
 import { readLink } from "../../web/link.js";
-import { drawQuestions, drillOf, kindsOf, mostOf, numbersFrom } from "../../web/questions.js";
 import { ROLLS } from "../../web/points.js";
-import { measuredOf } from "../../web/state/reads.js";
-import { reachedBy, ways } from "../../web/steps.js";
-import { isNamed, LEVELS, levelsOf, positions, THEMES } from "../../web/themes.js";
-import { meanOf, readEstimate, readLessons, writeLesson } from "../../web/trainer.js";
-import { thumb } from "../../web/training.js";
-import { textOf } from "../../web/tree.js";
-import { drawn } from "../../web/worker.js";
-import { about, answerTo, equal, legalFrom, linkOf, numbersOf, settled, test, Used, wrong } from "./stand_in.mjs";
+import { drawn } from "../../web/question/asks.js";
+import { drawQuestions, drillOf, kindsOf, mostOf, numbersFrom } from "../../web/question/questions.js";
+import { resetGuesses } from "../../web/question/state.js";
+import { isNamed, LEVELS, levelsOf, positions, THEMES } from "../../web/question/themes.js";
+import { reckoned } from "../../web/rules.js";
+import { about, answerTo, equal, legalFrom, linkOf, numbersOf, settled, test, Used, wrong, textOf } from "./stand_in.mjs";
 
 // A play that is made on the board, by clicks and by keys.
 test("plays on the board", async () => {
@@ -41,7 +41,9 @@ test("plays on the board", async () => {
     equal("where nothing can be done", of("aria-disabled"), [null, "true", null, "true", "true", "true", "true"]);
     equal("one stop of Tab", of("tabindex").map((at, place) => at === "0" && place).filter((at) => at !== false), [0]);
     for (const [does, name, wanted, more] of [
-        ["off, point 3", "a place where nothing can go", CAN_MOVE, { "state picked": null, "length steps": 0 }],
+        ["off, point 3", "a place where nothing can go", CAN_MOVE, { "state picked": null, "length steps": 0,
+            said: "No checker can move from there.", "begins #steering": "No checker can move from there." }],
+        ["point 6, point 5", "nor from the one that was picked", CAN_MOVE, { said: "The checker can\u2019t go there." }],
         ["point 6", "picked",
             "its checker is to move,-,a checker can go there,-,-,a checker can go there,a checker can go there",
             { said: "Point 6: to point 1, point 4, off.", marks: "50", spots: "250,550,off",
@@ -72,7 +74,7 @@ test("plays on the board", async () => {
         [used.press(key).defaultPrevented, used.focus()].join(" ")),
     ["false point 6", "true point 5", "true point 4", "true point 5", "true point 6"]);
     equal("Enter picks, and Escape puts back", ["Enter", "Escape"].map((key) =>
-        [used.press(key).defaultPrevented, used.session.state.picked]), [[true, 6], [true, null]]);
+        [used.press(key).defaultPrevented, used.session.state.hand.picked]), [[true, 6], [true, null]]);
     await used.run("", [
         ["to the place of those that are off", [at(6), "press Space", ...Array(6).fill("press ArrowRight")],
             { focus: "off" }],
@@ -83,18 +85,19 @@ test("plays on the board", async () => {
     equal("another key is not used", ["a", "Tab"].filter((key) => used.press(key).defaultPrevented), []);
     await used.run("", [["a play that is made is guessed", "point 6, point 1, point 4, point 2, made",
         { guesses: "6/1 4/2", focus: "next step" }]]);
-    used.session.become({ ...used.session.state, guesses: [], shown: null });
+    used.session.become(resetGuesses(used.session.state));
     await used.run("", [
         ["a play of the list ends what was begun", "point 4, point 2, play 6/off", { "state steps": [],
             board: "0,0,0,1,0,1", guesses: "6/off", "there point 6": false, focus: "next step",
-            "#coach .verdict": "6/off loses 0.056 of a roll; best is 6/1 4/2. In EPC: 0.454 pips." }]]);
+            "#coach .verdict b": "Small mistake", "count #coach .scale .is": 2,
+            "#coach .verdict .rest": "6/off loses 0.056 of a roll; best is 6/1 4/2. In EPC: 0.454 pips." }]]);
     const figures = [...used.at("board").querySelectorAll("figure")];
     equal("the boards show it and the best, with the arcs of its own play, and are looked at", figures.map((one) =>
         [one.querySelector("figcaption").textContent.trim(), one.getAttribute("class"),
             one.querySelectorAll(".arc").length,
             one.querySelectorAll(".arc .landing").length, one.querySelector("svg").getAttribute("role"),
             one.querySelector("marker").getAttribute("id")]),
-    [["Yours 6/off \u22120.056", "lost", 2, 1, "img", "yours-tip"], ["Best 6/1 4/2", "good", 2, 2, "img", "best-tip"]]);
+    [["Yours 6/off \u22120.056", "lost", 1, 0, "img", "yours-tip"], ["Best 6/1 4/2", "good", 2, 2, "img", "best-tip"]]);
     equal("the position is beside each", figures.map((board) => [1, 2, 3, 4, 5, 6].map((point) =>
         board.querySelector(`[data-point="${point}"]`).getAttribute("data-count")).join()),
             Array(2).fill("0,0,0,1,0,1"));
@@ -305,9 +308,19 @@ test("what a lesson's text says, and numbers", () => {
     equal("estimates", ["7", "7.5", "-0,25", "7.1234", "x", "1e3"].map((word) => String(readEstimate(word))),
         ["7000", "7500", "-250", "null", "null", "null"]);
     equal("a mean", [meanOf([1n, 2n]), meanOf([1n, 1n, 2n])].map(String), ["2", "1"]);
-    equal("the rule", [textOf(thumb([5, 0, 0, 0, 0, 0], { effective: { thousandths: 22005n } }))
-        .includes("22 EPC, 0.005 off here"), thumb([5, 1, 0, 0, 0, 0], { effective: {} })], [true, null]);
+    equal("how an estimate is reached", [[[2, 2, 0, 2, 1, 1], "pips"], [[3, 2, 4, 0, 1, 1], "effective"], [[3, 2, 4, 0, 1, 1], "wastage"],
+        [[9, 0, 0, 0, 0, 0], "effective"], [[9, 0, 0, 0, 0, 0], "wastage"], [[1, 0, 1, 0, 0, 0], "effective"]]
+        .map((words) => reckoned(...words)), [
+        "1 \u00d7 6 + 1 \u00d7 5 + 2 \u00d7 4 + 2 \u00d7 2 + 2 \u00d7 1 = 25",
+        "30 pips + 8\u00bd for the race + 4 over one on the ace + 1 over one on the deuce + "
+            + "1 over three on the three + 1 for high gaps = 45\u00bd",
+        "8\u00bd for the race + 4 over one on the ace + 1 over one on the deuce + "
+            + "1 over three on the three + 1 for high gaps = 15\u00bd",
+        "7 for each of 5 rolls without a double + 1 = 36", "7 for each of 5 rolls without a double + 1 \u2212 9 pips = 27",
+        "for so few checkers no rule holds: count their rolls, 8\u2159 pips each"]);
 });
+
+const OTHER = (what) => `The file is ${what}. This page reads databases, matches (.mat, .sgf) and lessons.`;
 
 // A file as a browser hands it over.
 const fileOf = (name, text) => Object.assign(new Blob([text]), { name });
@@ -330,9 +343,14 @@ test("lessons", async () => {
         title: "Step 1 of 2: <b>One</b> \u2013 Bearing off", "not in coach": "That one." }]]);
     const own = "lesson: Own\nstep: 2,0,0,0,0,0\n";
     for (const [name, given, trouble] of [["own.txt", `${own}text: mine`, ""],
-        ["bad.txt", "hello", "The lesson can't be read. Line 1: no such word"],
+        ["own", `# ours\n${own}text: mine`, ""],
+        ["lesson.mat", "lesson: Own\nhello", "The lesson can't be read. Line 2: no such word"],
         ["long.txt", `${own}# `.padEnd(10 ** 7, "x"),
-            "The lesson can't be read. Lessons have at most 1000000 characters."]]) {
+            "The lesson can't be read. Lessons have at most 1000000 characters."],
+        ["bad.txt", "hello", OTHER("neither a match, which begins with its length or a parenthesis, nor a lesson, "
+            + "which begins with \u201clesson:\u201d")], ["game.mat", Uint8Array.of(0x89, 0x50, 0x4e, 0x47, 1), OTHER("a picture")],
+        ["one.txt", "RGMH\u0000", OTHER("a match of eXtreme Gammon in its own form: save it there as text (.mat)")],
+        ["two.sgf", '{"format":"BGF","version":"1.0"}', OTHER("a match of BGBlitz in its own form: save it there as .mat or .sgf")]]) {
         await used.drop(fileOf(name, given));
         await used.worker.answerAll();
         used.sees(`the file ${name}`, { board: "2,0,0,0,0,0", "in coach": "mine", trouble });

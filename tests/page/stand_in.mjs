@@ -7,9 +7,9 @@ import Module, { createRequire } from "node:module";
 import { readFileSync } from "node:fs";
 import { delimiter } from "node:path";
 import { start } from "../../web/app.js";
-import { drawQuestions } from "../../web/questions.js";
+import { modeOf } from "../../web/mode.js";
 import { ROLLS } from "../../web/points.js";
-import { modeOf } from "../../web/state/reads.js";
+import { drawQuestions } from "../../web/question/questions.js";
 import { decimal, notation, percent } from "../../web/texts.js";
 import { equal as same, wrong as fault } from "./given.mjs";
 export { part as test } from "./given.mjs";
@@ -22,6 +22,13 @@ const { JSDOM, VirtualConsole } = createRequire(import.meta.url)("jsdom");
 
 const MARKUP = readFileSync(new URL("../../web/index.html", import.meta.url), "utf8")
     .replace(/\/\*(POLICY|STYLE|SCRIPT)\*\//g, "");
+
+// The text of a tree, as a reader sees it.
+export function textOf(tree) {
+    if (Array.isArray(tree)) return tree.map(textOf).join(" ");
+    return typeof tree === "object" && tree !== null
+        ? tree.children.map(textOf).join(" ") : String(tree ?? "");
+}
 
 // The document of the page, by jsdom, which lays nothing out and saves, scrolls and opens nothing:
 // what it would have done is kept beside each element.
@@ -198,6 +205,17 @@ export class Worker {
     }
 }
 
+// A result as a token, whose sum is computed otherwise than the page does.
+export function tokenOf(...fields) {
+    const text = ["2", ...fields].join("~");
+    const sum = [...text].reduce((so, letter) =>
+        ((so ^ BigInt(letter.codePointAt(0))) * 16777619n) % 2n ** 32n, 2166136261n);
+    return `bearoff[${text}~${sum.toString(36)}]`;
+}
+
+// A file whose bytes come so.
+export const bytesAs = (arrayBuffer) => ({ slice: () => ({ arrayBuffer }) });
+
 export const settled = () => new Promise((keep) => setImmediate(keep));
 
 export const pipsOf = (points) => points.reduce((sum, count, place) => sum + count * (place + 1), 0);
@@ -278,6 +296,7 @@ export function legalFrom(points) {
 
 // What a play that loses leaves, beside the best one; and a throw after which nothing moves.
 export const whyFrom = (points, roll, to) => ({
+    kind: "close", says: `Because of ${to} with ${roll}.`, against: null,
     rows: [{ name: `Of ${points} with ${roll}`, made: to.join(), best: "best" }],
     throws: { worse: 23, better: 0, roll: [6, 5], replies: [to, points].map((at) => ({ points: at, text: "none", moves: [] })) },
 });
@@ -365,6 +384,9 @@ export const linkOf = (text, more = {}) => `#${new URLSearchParams({ text, ...mo
 
 const textsOf = (nodes) => [...nodes].map((node) => node.textContent);
 
+// The part of the state that has a word, or all of it.
+const partOf = (state, name) => [state.run, state.hand, state.student].find((part) => name in part) ?? state;
+
 // What is seen, by the first word of what is asked for.
 const SEEN = {
     board: (used) => used.board.join(),
@@ -373,14 +395,14 @@ const SEEN = {
     title: ({ document }) => document.title,
     clipboard: ({ window }) => window.copied,
     asked: ({ worker }) => worker.asked.map(({ question }) => question.kind).join(),
-    guesses: ({ session }) => session.state.guesses.map(({ play }) => play.text).join(", "),
+    guesses: ({ session }) => session.state.run.guesses.map(({ play }) => play.text).join(", "),
     row: (used, key) => used.row(key),
     hidden: (used, name) => used.at(name).hidden,
     there: (used, key) => used.find(key) !== null,
     value: (used, key) => used.element(key).value,
     scrolled: (used, name) => used.element(name).scrolled,
-    state: ({ session }, name) => session.state[name],
-    length: ({ session }, name) => session.state[name].length,
+    state: ({ session: { state } }, name) => partOf(state, name)[name],
+    length: ({ session: { state } }, name) => partOf(state, name)[name].length,
     count: ({ document }, selector) => document.querySelectorAll(selector).length,
     all: ({ document }, selector) => textsOf(document.querySelectorAll(selector)),
 };
@@ -459,7 +481,7 @@ export class Used {
     }
 
     // Drops a file on the page.
-    async drop(file = { arrayBuffer: async () => new ArrayBuffer(8) }) {
+    async drop(file = bytesAs(async () => new ArrayBuffer(8))) {
         tell(this.document, "drop", { dataTransfer: { files: [file] } });
         await settled();
     }
@@ -489,7 +511,7 @@ export class Used {
         if (how) {
             const text = this.text(name);
             const is = [wanted].flat().map((words) =>
-                (how === "begins" ? text?.startsWith(words) : text?.includes(words)) !== (how === "not in"));
+                Boolean(how === "begins" ? text?.startsWith(words) : text?.includes(words)) !== (how === "not in"));
             return is.every(Boolean) ? wanted : text;
         }
         const [first] = word.split(" ");
@@ -546,7 +568,7 @@ export class Used {
     // No number is beside a position that it isn't of, on the board, in the table, aloud, or among the plays.
     check(when) {
         const { state } = this.session;
-        if (state.steps.length > 0) return; // the board shows a play that is made
+        if (state.hand.steps.length > 0) return; // the board shows a play that is made
         const points = this.board;
         const belongs = (name, is, at) => {
             const right = numbersOf(at);

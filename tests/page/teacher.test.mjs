@@ -1,10 +1,10 @@
 // One's own games, and what a teacher has, without a browser: a match from its text or its file to the first of its
 // misses that comes back, a class's drill with its sheet and key, and the results that come back.
 import { readFileSync } from "node:fs";
+import { fail } from "../../web/fields.js";
 import { readLink, readTyped } from "../../web/link.js";
 import { inWords } from "../../web/points.js";
-import { readResults } from "../../web/results.js";
-import { about, equal, pipsOf, settled, tell, test, Used } from "./stand_in.mjs";
+import { about, equal, pipsOf, settled, tell, test, tokenOf, Used } from "./stand_in.mjs";
 
 test("one's own games", async () => {
     const match = (kind) => readFileSync(new URL(`../../python/tests/matches/short.${kind}`, import.meta.url), "utf8");
@@ -15,7 +15,7 @@ test("one's own games", async () => {
         ["at first", "", { "aria-describedby of match text": "match-why", "count .reviewed": 0, [LOUD]: "first",
             "accept of match file": ".mat,.sgf,.txt" }],
         ["a fault", ["match text=7 point match\n\nGame 2", "read match"], { focus: "match text", [INVALID]: "true",
-            "match-why": "No match: line 3: it should be game 1: Game 2", "role of match-why": "alert" }],
+            "match-why": "No match: line 3: it should be game 1: Game 2", "role of match-why": "alert", '#games [role="status"]': "" }],
         ["a match", [`match text=${match("mat")}`, "read match"],
             { "match-why": "", [LOUD]: null, [INVALID]: "false" }],
     ]);
@@ -31,7 +31,7 @@ test("one's own games", async () => {
     equal("each has its own", rows().map((row) => [row.className,
         row.querySelector("svg.small").getAttribute("aria-label"),
         ...textsOf(row, ".which, .heard, dt, dd")]), known.map((one) => [one.play.isBest ? "good" : "lost",
-        `The board: ${inWords(one.points)}`, `${one.game}, ${one.move}`,
+        `The board: ${inWords(one.points)}`, `Game ${one.game}, move ${one.move}`,
         one.dice[0] === one.dice[1] ? `Double ${one.dice[0]}` : one.dice.join(" and "), names[one.player],
             one.play.text,
         "Best", one.best.text, "Lost", one.choices === 1 ? "the only play" : one.play.isBest ? "nothing"
@@ -50,7 +50,7 @@ test("one's own games", async () => {
         .map(({ points, play }) => [points, Number(play.loss)]);
     await used.run("", [["its misses come back", [`ask ${player}`, `ask ${player}`],
         { "in games": `${misses.length} questions come back from today on.` }]]);
-    equal("each once", used.session.state.memory.cards.map(({ points, lost }) => [points, lost]), misses);
+    equal("each once", used.session.state.student.memory.cards.map(({ points, lost }) => [points, lost]), misses);
     const [dearest] = misses.reduce((most, one) => (one[1] > most[1] ? one : most));
     await used.run("", [
         ["from today on", "go #home", { "begins #today .begin": `Begin ${misses.length} again` }],
@@ -59,7 +59,7 @@ test("one's own games", async () => {
     ]);
     equal("they are there", rows().length > 0, true);
     const { state } = used.session;
-    used.session.become({ ...state, matchFault: "line 3" });
+    used.session.become(fail(state, "match", "line 3"));
     used.sees("a fault of the database, and no plays", { "count #games .reviewed": 0, "not in games": "No bearoff" });
     const { place } = turns.map((turn, at) => ({ ...turn, place: at }))
         .find((turn) => turn.points.join() === dearest.join());
@@ -68,14 +68,14 @@ test("one's own games", async () => {
     await used.run("", [["one of them", [`ask ${player}`], { "in games": ["One question comes back from today on.",
         "the only play"],
         'all #games td[data-head="with a choice"]': ["0", "0"] }]]);
-    tell(used.find("match file"), "change", { target: { files: [new Blob([match("mat")])] } });
+    tell(used.find("match file"), "change", { target: { files: [new Blob([match("mat").replace(/^;.*\n+/, "")])] } });
     await settled();
     await used.answered("chosen");
-    used.sees("a file that is chosen, of which nothing was said yet", { "not in games": "back from today" });
+    used.sees("a file that is chosen, whatever its name, of which nothing was said yet", { "not in games": "back from today" });
     equal("it is read", rows().length, known.length);
     await used.do("go #at=1,0,0,0,0,0");
     await used.drop(Object.assign(new Blob([Buffer.from(match("sgf").replace("PW[", "PW[J\u00fc"), "latin1")]),
-        { name: "x.SGF" }));
+        { name: "x.txt" }));
     await settled();
     await used.answered("a file");
     used.sees("a file that is dropped, of an older code", { screen: "games" });
@@ -96,7 +96,7 @@ test("a class's drill", async () => {
         { "positions-why": why, focus: "positions", "there print sheet": false }]));
     // two at once: the first is let go
     for (const text of ["3,0,0,0,0,0 11", `1,1,0,0,0,0 12\r\n\n2 2 2 2 2 2 3-1\n${XGID}\n${XGID} 61`]) {
-        used.find("positions").value = text;
+        used.give("positions", text);
         used.click("sheet");
     }
     await used.answered("both sheets");
@@ -129,65 +129,68 @@ test("a class's drill", async () => {
 });
 
 test("results", async () => {
-    const one = (name, lost, drill = "all 7 play hard") =>
-        `bearoff result 1\ndrill ${drill}\nname ${name}\nlost ${lost}`;
-    const plays = (name, ...all) =>
-        `${one(name, all.map((text) => (text === "6/off" ? "0" : "56")).join(" "))}\nplayed ${
-        all.join(", ")}`;
+    const one = (name, lost, drill = "all~7~play~hard~", played = lost.map(() => "x")) =>
+        tokenOf(...drill.split("~"), encodeURIComponent(name).replaceAll("~", "%7E"), lost, played);
     const used = await Used.open("#teacher");
     const rowsOf = (table) => [...used.document.querySelectorAll(`${table} tbody tr`)].map((row) =>
         [...row.children].map((cell) => cell.textContent).join(" "));
-    const give = async (name, text, { pupils = [], questions = [], ...seen }) => {
+    const give = async (name, text, { pupils = [], questions = [], why = "", ...seen }) => {
         await used.run("results", [[name, [`results=${text}`],
-            { "results-why": "", "aria-invalid of results": "false", ...seen }]]);
+            { "results-why": why, "aria-invalid of results": String(why !== ""), "value results": text, ...seen }]]);
         equal(name, [rowsOf(".pupils:not(.questions)"), rowsOf(".questions")], [pupils, questions]);
     };
     await give("nothing yet", "", { "role of results-why": "alert" });
+    const three = [one("Ada L.", [56, 0, "x", 0]), one("Bo", [0, 0, 20, 1]), one("<i>Cy</i>~", [0, 70, 20, 7])];
+    const told = { pupils: ["Bo 4 2 0.021", "<i>Cy</i>~ 4 3 0.097", "Ada L. 3 1 0.056"], questions: ["Question 3 2 of 3 \u2013",
+        "Question 4 2 of 3 \u2013", "Question 1 1 of 3 \u2013", "Question 2 1 of 3 \u2013"] };
     await give("who answered most and lost least first, and which questions most have missed",
-        [`Dear teacher,\n\n${one("Ada L.", "56 0 - 0")}\n\nBye`, `${one("Bo", "0 0 20 1")}\r`,
-            one("<i>Cy</i>", "0 70 20 7")]
-            .join("\n"),
-        { pupils: ["Bo 4 2 0.021", "<i>Cy</i> 4 3 0.097", "Ada L. 3 1 0.056"], questions: ["Question 3 2 of 3 \u2013",
-            "Question 4 2 of 3 \u2013", "Question 1 1 of 3 \u2013", "Question 2 1 of 3 \u2013"] });
+        `Dear teacher,\n\n${three.join("\n")}\n\nBye`, told);
     equal("each is a link", [...used.document.querySelectorAll(".questions a")].map((node) =>
         readLink(node.getAttribute("href"))).map(({ place, drill }) => [place, drill.level]),
     [[2, "hard"], [3, "hard"], [0, "hard"], [1, "hard"]]);
-    await give("what was played by whom",
-        [plays("Ada", "6/off", "5/1 4/2"), plays("Bo", "6/off", "6/off"), plays("Cy", "6/off", "5/1 4/2")].join("\n"),
+    // what mails and messengers do to it
+    const wrapped = (text, width, start) => text.match(new RegExp(`.{1,${width}}`, "g")).join(`\n${start}`);
+    for (const [name, text] of [["wrapped", three.map((text) => wrapped(text, 30, "")).join("\n\n")],
+        ["quoted", `> ${three.map((text) => wrapped(text, 40, "> > ")).join("\n> name of the class\n> ")}`],
+        ["of quoted-printable", three.map((text) => wrapped(text, 19, "").replaceAll("\n", "=\n")).join("\n")],
+        ["on one line", three.join(" ")], ["at the start of a sentence", three.map((text) => `B${text.slice(1)}`).join("")]]) {
+        await give(name, text, told);
+    }
+    const plays = (name, ...all) => one(name, all.map((text) => (text === "6o(2)" ? 0 : 56)), "all~7~play~hard~", all);
+    await give("what was played by whom", [plays("Ada", "6o(2)", "51_42"), plays("Bo", "6o(2)", "6o(2)"), plays("Cy", "6o(2)", "51_42")].join("\n"),
         { pupils: ["Bo 2 0 0.000", "Ada 2 1 0.056", "Cy 2 1 0.056"], questions: [
-            "Question 2 2 of 3 6/off (best): Bo; 5/1 4/2 (\u22120.056): Ada, Cy",
-                "Question 1 0 of 3 6/off (best): Ada, Bo, Cy"] });
-    const ofList = "bearoff result 1\ndrill all 1 play any\nlist 1,1,0,0,0,0,21\nname A\nlost 0";
-    equal("of a list too", [readResults(ofList).results[0]
-        .drill, readResults(plays("A", "6/7")).fault, readResults(`${plays("A", "6/off")}, 6/off`).fault],
-    [{ theme: "all", seed: 1, ask: "play", list: [{ points: [1, 1, 0, 0, 0, 0], roll: [2, 1] }] },
-        "Line 5 can't be read.", "Result 1 is not whole."]);
-    await give("of which drill", one("Ada", "56 0"), { pupils: ["Ada 2 1 0.056"],
+            "Question 2 2 of 3 6/off(2) (best): Bo; 5/1 4/2 (\u22120.056): Ada, Cy",
+                "Question 1 0 of 3 6/off(2) (best): Ada, Bo, Cy"] });
+    await give("of a list too", one("A", [0], "all~1~play~any~1,1,0,0,0,0,21"), { pupils: ["A 1 0 0.000"],
+        ".pupils caption": "Drill: Positions of a class, Play" });
+    await give("of which drill", one("Ada", [56, 0]), { pupils: ["Ada 2 1 0.056"],
         questions: ["Question 1 1 of 1 \u2013"],
         ".pupils caption": "Drill: All positions, Play, hard" });
-    await give("estimates that are a pip off are missed", one("Ada", "999 1000 0", "few 3 effective any"),
-        { pupils: ["Ada 3 1 1.999"], questions: ["Question 2 1 of 1 \u2013"], "in .pupils": "lost, in pips" });
-    await give("two of one name", [one("Ada", "56 0"), one("Ada", "0 0")].join("\n"),
+    await give("estimates that are a pip off are missed", one("Ada", [999, 1000, 0], "few~3~effective~any~", ["-1.500", "12.000", "x"]),
+        { pupils: ["Ada 3 1 1.999"], questions: ["Question 2 1 of 1 12.000 (\u22121.000): Ada", "Question 1 0 of 1 \u22121.500 (\u22120.999): Ada"],
+            "in .pupils": "lost, in pips" });
+    await give("two of one name", [one("Ada", [56, 0]), one("Ada", [0, 0])].join("\n"),
         { pupils: ["Ada 2 0 0.000", "Ada 2 1 0.056"], questions: ["Question 1 1 of 2 \u2013"] });
-    await give("nothing missed", one("Ada", "0 0"), { pupils: ["Ada 2 0 0.000"] });
+    await give("nothing missed", one("\u202eAda", [0, 0]), { pupils: ["Ada 2 0 0.000"] });
     await used.run("results", [["they are there again", "go #home, go #teacher",
-        { "value results": one("Ada", "0 0") }]]);
-    const line = (number) => `Line ${number} can't be read.`;
-    const other = "Result 2 is of another drill than the first.";
+        { "value results": one("\u202eAda", [0, 0]) }]]);
+    const cut = "isn\u2019t whole: a part of it was lost or changed.";
+    const bad = "can\u2019t be read.";
+    const good = one("Bo", [0, 56]);
     for (const [words, why] of [
-        ["hello", "There is no result in it."], [one("", "0"), line(3)], [one("A", "x"), line(4)],
-            [one("A", "0 -1"), line(4)],
-        [one("A", "0 ".repeat(61).trim()), line(4)], [one("A", "0", "all 7 play harder"), line(2)],
-        [one("A", "0", "nowhere 7 play any"), line(2)], [one("A", "0", "all 7 play any more"), line(2)],
-        [one("A", "0", "fewer 7 play easy"), line(2)], ["name A", line(1)], [`${one("A", "0")}\nname B`, line(5)],
-        ["bearoff result 2", "Line 1 is of another version."], ["bearoff result 1\nname A", "Result 1 is not whole."],
-        [`${one("A", "0")}\n${one("B", "0", "all 8 play hard")}`, other],
-            [`${one("A", "0")}\n${one("B", "0 1")}`, other],
-        ["x".repeat(200001), "It has more than 200000 characters."],
-    ]) await give(`refused, ${words.slice(0, 60)}`, words, { "results-why": why, "aria-invalid of results": "true",
-        "value results": words });
+        [good.slice(0, -3), `of Bo ${cut}`], [good.replace("56", "5"), `of Bo ${cut}`], [good.replace("56", "65"), `of Bo ${cut}`],
+        ["bearoff[", cut], ["bearoff[]", cut], [good.replace("bearoff[2", "bearoff[3"), `of Bo ${cut}`],
+        [tokenOf("x").replace("[2~", "[").replace(/~[^~]*]/, "]"), cut], [one("", [0, 0]), bad], [one("A", ["y", 0]), `of A ${bad}`],
+        [one("A", [0, "-1"]), `of A ${bad}`], [one("A", Array(61).fill(0)), `of A ${bad}`], [one("A", [0, 0], "all~7~play~harder~"), `of A ${bad}`],
+        [one("A", [0, 0], "nowhere~7~play~any~"), `of A ${bad}`], [one("A", [0, 0], "fewer~7~play~easy~"), `of A ${bad}`],
+        [one("A", [0, 0], "all~7~play~hard~", ["67", "x"]), `of A ${bad}`], [one("A", [0, 0], "all~7~play~hard~", ["x"]), `of A ${bad}`],
+        [one("A", [0, 0], "all~8~play~hard~"), "of A is of another drill than the first."],
+        [one("A", [0]), "of A is of another drill than the first."],
+    ]) {
+        await give(`good ones are taken and bad ones named, ${words.slice(0, 60)}`, `${good}\n${words}\n${good}`, {
+            why: `Result 2 ${why}`, pupils: ["Bo 2 1 0.056", "Bo 2 1 0.056"], questions: ["Question 2 2 of 2 \u2013"] });
+    }
+    for (const [words, why] of [["hello", "There is no result in it."], ["x".repeat(200001), "It has more than 200000 characters."],
+        [one("A", [0], "none~1~play~any~"), `Result 1 of A ${bad}`]]) await give(`refused, ${words.slice(0, 60)}`, words, { why });
     await give("an empty field is none", "", {});
-    used.find("results").value = one("Ada", "0 0");
-    await used.do("show results");
-    equal("by the button, too", rowsOf(".pupils"), ["Ada 2 0 0.000"]);
 });

@@ -2,9 +2,9 @@
 // stays of a run when the page is loaded anew.
 import { readLink } from "../../web/link.js";
 import { inWords } from "../../web/points.js";
+import { giveEstimate, guessKey, missedOf, NO_RUN, verdictOf } from "../../web/question/state.js";
+import { mistakesOf } from "../../web/review/state.js";
 import { begin } from "../../web/state.js";
-import { missedOf, missKey, mistakesOf, verdictOf } from "../../web/state/reads.js";
-import { giveEstimate } from "../../web/state/training.js";
 import { about, answerTo, asGood, best, drawFrom, equal, losing, settled, tell, test, Used, WAITS,
     whyFrom } from "./stand_in.mjs";
 
@@ -18,8 +18,8 @@ test("a loss that rounds to nothing", () => {
     const right = { text: "6/1 4/2", isBest: true, isRecorded: true, loss: 0n, lossText: "0.000", exact: "0/1" };
     const [slightly, missed] = [[0n, "1/3000"], [1n, "1/1000"]].map(([loss, exact]) => ({
         ...begin(readLink("#guess=1")), points, roll, drill: { theme: "all", seed: 1, ask: "play" },
-        questions: [{ points, roll }], place: 0, guesses: [{ at: points.join(), roll, best: right, play:
-            { text: "6/off", isBest: false, isRecorded: false, loss, lossText: `0.00${loss}`, exact } }] }));
+        place: 0, run: { ...NO_RUN, questions: [{ points, roll }], guesses: [{ at: points.join(), roll, best: right,
+            play: { text: "6/off", isBest: false, isRecorded: false, loss, lossText: `0.00${loss}`, exact } }] } }));
     equal("what is told, asked again, and a mistake", [slightly, missed].map((one) =>
         [verdictOf(one).first, missedOf(one).length, mistakesOf(one) !== ""]), [
         ["6/off loses less than 0.0005 of a roll, no mistake; best is 6/1 4/2.", 0, false],
@@ -30,14 +30,14 @@ test("a loss that rounds to nothing", () => {
 // What is said of a play that loses stands beside it alone, and comes late.
 test("why a play loses", async () => {
     const used = await Used.open(GAPS);
-    const [one, two, three] = used.session.state.questions;
+    const [one, two, three] = used.session.state.run.questions;
     const says = () => (used.at("reasons").hidden ? null
         : [...[...used.at("reasons").querySelectorAll("tbody tr")]
             .map((row) => [...row.children].map((cell) => cell.textContent)),
             [...used.at("reasons").querySelectorAll("figure svg")].map((board) => board.getAttribute("aria-label"))]);
     const told = ({ points, roll }) => {
         const { rows, throws: { replies } } = whyFrom(points, roll,
-            used.session.state.guesses.find(({ at }) => at === points.join()).play.to);
+            used.session.state.run.guesses.find(({ at }) => at === points.join()).play.to);
         return [...rows.map(Object.values), replies.map(({ points: at }) => `The board: ${inWords(at)}`)];
     };
     about("why a play loses");
@@ -49,15 +49,15 @@ test("why a play loses", async () => {
     await used.worker.answerAll();
     used.sees("once it is known", { focus: "next question",
         "all #reasons thead th, #reasons figcaption b": ["Yours", "Best", "Yours", "Best"],
-        "#reasons p": "Of the 36 next throws yours is worse after 23, better after none. "
-            + "Most is lost where 6-5 follows:" });
+        "begins #reasons p": "Because of ", "begins said": "Because of ", "count #reasons details[open]": 0,
+        "#reasons details p": "Of the 36 next throws 23 are worse for yours, none better. The costliest is 6-5:" });
     equal("it is told", says(), told(one));
     for (const [name, does, wanted] of [["not beside the next question", "next question", null],
-        ["nothing of the best play", best(two.roll), null],
+        ["why the best play is right", best(two.roll), "two"],
         ["the former question has its own again", "previous question", told(one)],
         ["nothing where one looks around", [`go ${used.find("look around").getAttribute("href")}`], null]]) {
         await used.do(does);
-        equal(name, says(), wanted);
+        equal(name, says(), wanted === "two" ? told(two) : wanted);
     }
     await used.do("back");
     while (used.session.state.place < 2) await used.do("next question");
@@ -72,7 +72,7 @@ test("why a play loses", async () => {
 
     const miss = { at: "2,2,2,2,2,2", roll: [3, 1], play: { text: "3/1" } };
     const others = [{ at: "2,2,2,2,2,1" }, { roll: [3, 2] }, { play: { text: "3/off" } }];
-    equal("another miss has another key", others.filter((other) => missKey({ ...miss, ...other }) === missKey(miss)),
+    equal("another miss has another key", others.filter((other) => guessKey({ ...miss, ...other }) === guessKey(miss)),
         []);
     const free = await Used.open("#at=2,2,2,2,2,2&guess=1&roll=31");
     await free.run("", [["nothing where nobody trains", "play 3/1 1/2", { "in plays": "loses", "hidden reasons": true,
@@ -85,7 +85,7 @@ test("estimates", async () => {
     const enter = (value) => () => { tell(used.find("estimate"), "keydown", { key: "Enter", target: { value } }); };
     const [first, second] = [[1, 0, 0, 0, 0, 0], [0, 1, 0, 0, 0, 0]]
         .map((points) => answerTo(points).wastage.thousandths);
-    const far = (place) => String(used.session.state.estimates[place].error);
+    const far = (place) => String(used.session.state.run.estimates[place].error);
     await used.run("estimates", [
         ["the kept is hidden too", "", { "row 1,0,0,0,0,0": WAITS }],
         ["no number is no estimate", "estimate=x, tell", { "length estimates": 0 }],
@@ -96,7 +96,7 @@ test("estimates", async () => {
         [first > 7000n ? first - 7000n : 7000n - first, second + 999000n].map(String));
     const small = { ...begin(readLink("#at=1,0,0,0,0,0&estimate=effective")), answers: new Map([["1,0,0,0,0,0",
         { ...answerTo([1, 0, 0, 0, 0, 0]), effective: { text: "8.167", thousandths: 8167n } }]]) };
-    equal("above", ["9", "7.167"].map((word) => String(giveEstimate(small, word).estimates[0].error)), ["833", "1000"]);
+    equal("above", ["9", "7.167"].map((word) => String(giveEstimate(small, word).run.estimates[0].error)), ["833", "1000"]);
     tell(used.find("estimated"), "change", { target: { value: "" } });
     await used.worker.answerAll();
     used.sees("off", { "state estimate": null });
@@ -112,7 +112,8 @@ test("estimates", async () => {
         [`the estimate ${text}`, [`estimate=${text}`, "tell"], {
         "estimate-why": "An estimate is a number with at most three decimals, such as 51 or 51.5.",
         "aria-invalid of estimate": "true", "value estimate": text, focus: "estimate", "length estimates": 0 }]),
-    ["a right one", "estimate=8, tell", { "length estimates": 1, "begins said": "You said 8.000: " }]]);
+    ["a right one", "estimate=8, tell", { "length estimates": 1, "begins said": "You said 8.000: ",
+        "begins #numbers .because": "At the board: 7 for each of 1 roll " }]]);
 });
 
 // A run goes on where it was: after a reload, Back and Forward, and another position.
@@ -142,7 +143,7 @@ test("runs that go on", async () => {
     [asked.slice(0, 3).map(({ points, roll }) => [points.join(), roll.join(), true])]);
     used = await again(`${GAPS}&question=4&at=${asked[3].points}&roll=${asked[3].roll.join("")}`, stored);
     await used.run("", [["a reload", "", { board: asked[3].points.join(), "in coach": ["Question 4 of 20.", soFar] }]]);
-    equal("what was missed is known", used.session.state.guesses.map(({ play, best: { text } }) => [play.exact, text]),
+    equal("what was missed is known", used.session.state.run.guesses.map(({ play, best: { text } }) => [play.exact, text]),
         asked.slice(0, 3).map(({ roll: [high, low] }, place) =>
             [place === 1 ? "0/1" : "1/18", `${high}/off ${low}/0`]));
     await used.run("", [["what was answered stays answered", "previous question",
@@ -178,25 +179,25 @@ test("runs that go on", async () => {
     used = await Used.open("#drill=stacks&seed=3&ask=play&at=1,0,0,0,0,0", { took: 100,
         stored: new Map([["bearoff drills", JSON.stringify({ "stacks,3,play,any": run })]]) });
     used.sees("nothing of it is asked of 44 pips", { "length guesses": 0, open: "44 pips" });
-    equal("but kept", used.session.state.picks !== null, true);
+    equal("but kept", used.session.state.run.picks !== null, true);
     await used.widened();
-    equal("it is asked of the whole board", [used.session.state.picks,
-        used.session.state.guesses.map(({ play }) => play.exact)],
+    equal("it is asked of the whole board", [used.session.state.run.picks,
+        used.session.state.run.guesses.map(({ play }) => play.exact)],
         [null, ["1/18"]]);
 
     used = await Used.open("#drill=ace&seed=3&ask=wastage");
     await used.run("a run of estimates that goes on", [["the focus goes on", "estimate=-1.5, tell, pass 1000",
         { focus: "next question" }]]);
-    const [{ error }] = used.session.state.estimates;
+    const [{ error }] = used.session.state.run.estimates;
     used = await again(used.look("hash"), used.window.stored);
     used.sees("it isn't asked anew", { "there estimate": false, "in numbers": "You said \u22121.500: " });
-    equal("a reload", used.session.state.estimates.map(({ told, error: off, kind }) => [told, off, kind].join(" ")),
+    equal("a reload", used.session.state.run.estimates.map(({ told, error: off, kind }) => [told, off, kind].join(" ")),
         [`-1500 ${error} wastage`]);
 
     about("a question once more after a reload");
     const FEW = "#drill=few&seed=6&ask=play&level=hard";
     used = await Used.open(FEW);
-    const { questions } = used.session.state;
+    const { questions } = used.session.state.run;
     for (const [place, { roll }] of questions.slice(0, 4).entries()) {
         await used.do([place === 0 ? best(roll) : losing(roll), "next question"]);
     }

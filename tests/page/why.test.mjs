@@ -4,11 +4,11 @@
 import { readFileSync } from "node:fs";
 import { join } from "node:path";
 import { Database } from "../../js/database.js";
-import { choicesOf } from "../../web/answers.js";
-import { drawQuestions } from "../../web/questions.js";
+import { choicesOf } from "../../web/board/asks.js";
 import { ROLLS } from "../../web/points.js";
-import { positions, THEMES } from "../../web/themes.js";
-import { reasonsOf } from "../../web/why.js";
+import { drawQuestions } from "../../web/question/questions.js";
+import { positions, THEMES } from "../../web/question/themes.js";
+import { reasonsOf } from "../../web/question/why.js";
 import { effectOf, equal, modulesFolder, part, wrong } from "./given.mjs";
 
 const QUESTIONS = 2000;
@@ -88,13 +88,61 @@ const ROWS = {
     "Tallest stack": [(text, code) => text === String(Math.max(...POINTS.map((point) => countOn(code, point)))),
         (made, best) => Math.max(...POINTS.map((point) => countOn(made, point)))
             !== Math.max(...POINTS.map((point) => countOn(best, point)))],
-    "Throws that bear off two": [(text, code) => text === `${pairs(code)} of 36`,
-        (made, best) => pairs(made) !== pairs(best)],
+    // where fewer are left after the worse play it is told in words
+    "Left after the next roll, on average": [(text, code) => near(text, left(code) / 36, 0.00051),
+        (made, best) => left(made) > left(best)],
 };
-const pairs = (code) => throwsOf((roll) => ends(code, roll).some((to) => checkers(code) - checkers(to) >= 2));
+const left = (code) => (code === 0 ? 0 : DICE.reduce((sum, roll) =>
+    sum + weight(roll) * checkers(playOf(code, roll)), 0));
+
+// What the sentence says, by the kind of the mistake, of numbers that are read from it, and that it speaks for the best.
+const missing = (code) => POINTS.filter((point) => countOn(code, point) === 0 && code >= 16 ** point);
+const high = (code) => Math.max(...POINTS.map((point) => countOn(code, point)));
+const ending = (code) => throwsOf((roll) => playOf(code, roll) === 0);
+const rollsFor = (code) => Math.ceil(checkers(code) / 2);
+const numbersIn = (text) => [...text.matchAll(/\d+|\b(an ace|each number takes one off)/g)].flatMap(([word, name]) =>
+    (name === "an ace" ? [1] : name ? [] : [Number(word)]));
+const off = (made, best) => (checkers(made) === checkers(best) ? /^As many come off\b/
+    : new RegExp(`^The best play takes ${[, "one", "two", "three", "four"][checkers(best) - checkers(made)]} fewer off\\.`));
+const KINDS = {
+    over: (text, made, best) => best === 0 && text === "The best play takes all that is left off.",
+    last: (text, made, best) => {
+        const [one, , other] = numbersIn(text);
+        return Math.max(checkers(made), checkers(best)) <= 2 && (/^Count/.test(text)
+            ? one === ending(best) && numbersIn(text)[2] === ending(made) && one > other
+            : one === ending(made) && other === ending(best) && one >= other);
+    },
+    roll: (text, made, best) => rollsFor(made) > rollsFor(best) && numbersIn(text).join() === [checkers(made), checkers(best),
+        checkers(made), rollsFor(made), checkers(best), rollsFor(best)].join(),
+    spare: (text, made, best) => checkers(made) === 2 * rollsFor(made) && checkers(best) === checkers(made) - 1
+        && numbersIn(text).join() === [checkers(made), checkers(best), rollsFor(made), checkers(made), checkers(best)].join(),
+    fewer: (text, made, best) => checkers(best) > checkers(made) && missing(best).length < missing(made).length
+        && numbersIn(text).join() === [...missing(made), ...missing(best)].join(),
+    misses: (text, made, best) => off(made, best).test(text) && checkers(best) === checkers(made)
+        && missing(best).length < missing(made).length && numbersIn(text).join() === [...missing(made), ...missing(best)].join(),
+    ace: (text, made, best) => off(made, best).test(text) && countOn(made, 1) > countOn(best, 1)
+        && numbersIn(text.replace("over an ace", "")).join()
+            === [countOn(made, 1), ...(countOn(best, 1) > 0 ? [countOn(best, 1)] : [])].join(),
+    stack: (text, made, best) => {
+        const [count, point, most] = numbersIn(text);
+        return off(made, best).test(text) && countOn(made, point) === count && high(made) === count && high(best) === most
+            && most < count;
+    },
+    close: (text, made, best) => checkers(made) <= checkers(best) && missing(made).length <= missing(best).length
+        && countOn(made, 1) <= countOn(best, 1) && high(made) <= high(best)
+        && /^Too close/.test(text) === (table.get(made).mean - table.get(best).mean < 0.0205)
+        && (left(made) > left(best)) === / But /.test(text),
+};
 
 // What is wrong in what is told of two positions: in words, or "".
-function faultIn({ rows, throws }, made, best) {
+function faultIn({ kind, says, against, rows, throws }, made, best) {
+    if (!KINDS[kind](says, made, best)) return `${kind}: ${says}`;
+    const isAgainst = made !== 0 && left(made) < left(best);
+    if (isAgainst !== (against !== null)) return `against it: ${against}`;
+    if (isAgainst && ![left(made), left(best)].every((sum) => against.includes((Math.round((1000 * sum) / 36) / 1000)
+        .toFixed(3)))) return against;
+    const decides = rows.filter((row) => row.decides);
+    if (decides.length > 1) return "two rows decide";
     const told = new Map(rows.map((row) => [row.name, row]));
     if (told.size !== rows.length) return "a row stands twice";
     const more = (rolls) => table.get(best).within[rolls] - table.get(made).within[rolls];
@@ -104,6 +152,9 @@ function faultIn({ rows, throws }, made, best) {
     for (const name of names) {
         const row = told.get(name);
         if (!row) return `no row ${name}`;
+        const [less, more] = (name === "Empty points" ? [row.made, row.best].map((text) => text.match(/\d/g)?.length ?? 0)
+            : [row.made, row.best].map(Number));
+        if (!name.startsWith("Wastage") && Boolean(row.isForMade) !== less < more) return `for whom: ${JSON.stringify(row)}`;
         if (!ROWS[name][0](row.made, made) || !ROWS[name][0](row.best, best)) return JSON.stringify(row);
         told.delete(name);
     }
@@ -120,7 +171,15 @@ function faultIn({ rows, throws }, made, best) {
     const costs = DICE.map((roll) => weight(roll) * lost(roll));
     if (throws.worse !== throwsOf((roll) => lost(roll) > SAME)) return `worse after ${throws.worse}`;
     if (throws.better !== throwsOf((roll) => lost(roll) < -SAME)) return `better after ${throws.better}`;
-    if (weight(throws.roll) * lost(throws.roll) < Math.max(...costs) - SAME) return `the throw ${throws.roll}`;
+    const [total, most] = [costs.reduce((sum, one) => sum + one), Math.max(...costs)];
+    if (throws.roll === null) {
+        const alike = costs.filter((cost) => cost > most - SAME).length > 1;
+        const [dearest] = DICE.filter((_, place) => costs[place] > most - SAME);
+        const effectOn = (code) => POINTS.map((point) => countOn(playOf(code, dearest), point) - countOn(code, point)).join();
+        return alike || 3 * most < total + SAME || effectOn(made) === effectOn(best) ? "" : `no throw, and ${dearest}`;
+    }
+    if (weight(throws.roll) * lost(throws.roll) < most - SAME) return `the throw ${throws.roll}`;
+    if (3 * most < total - SAME || throws.replies[0].text === throws.replies[1].text) return `it tells nothing: ${throws.roll}`;
     for (const [place, code] of [made, best].entries()) {
         const { points, text, moves } = throws.replies[place];
         const to = playOf(code, throws.roll);
@@ -137,6 +196,21 @@ function faultIn({ rows, throws }, made, best) {
         }
     }
     return "";
+}
+
+// What is wrong in what is told of a right play: in words, or "". It is what would be told of the next best.
+function rightFault({ kind, says, against, rows, throws }, from, best, others) {
+    const next = / best \(((?:[^()]|\(\d\))*)\)/.exec(says)?.[1];
+    const least = Math.min(...others.map((code) => table.get(code).mean));
+    const made = others.find((to) => next === undefined || effectOf(next) === POINTS.flatMap((point) => {
+        const count = countOn(to, point) - countOn(from, point);
+        return count === 0 ? [] : [`${point}:${count}`];
+    }).concat(checkers(from) > checkers(to) ? [`off:${checkers(from) - checkers(to)}`] : []).sort().join(" "));
+    if (made === undefined || (next !== undefined && table.get(made).mean > least + SAME)) return `the next best: ${says}`;
+    const asMiss = says.replaceAll("yours", "the best play").replaceAll("Yours", "The best play")
+        .replace(/he next best \((?:[^()]|\(\d\))*\)/g, "he next").replaceAll("The next", "Yours").replaceAll("the next", "yours");
+    return KINDS[kind](asMiss.replace("after yours roll", "after the next roll"), made, best) && against === null
+        && rows.length === 0 && throws === null ? "" : `${kind}: ${says}`;
 }
 
 part("what is told of a play that loses", async () => {
@@ -156,8 +230,11 @@ part("what is told of a play that loses", async () => {
                 questions += 1;
                 const to = POINTS.map((point) => countOn(made, point));
                 const reasons = reasonsOf(database, points, roll, to);
-                const fault = faultIn(reasons, made, best);
+                const fault = faultIn(reasons, made, best) || rightFault(
+                    reasonsOf(database, points, roll, POINTS.map((point) => countOn(best, point))),
+                    codeOf(points), best, ends(codeOf(points), roll).filter((to) => table.get(to).mean > table.get(best).mean + SAME));
                 if (fault) wrong(`${points} with ${roll} to ${to}: ${fault}`);
+                told.set(reasons.kind, (told.get(reasons.kind) ?? 0) + 1);
                 for (const row of reasons.rows) {
                     const kind = row.name.replace(/ within .*/, "");
                     told.set(kind, (told.get(kind) ?? 0) + 1);
@@ -166,6 +243,6 @@ part("what is told of a play that loses", async () => {
             }
         }
     }
-    equal("rows that no play has", Object.keys(ROWS).concat("Off").filter((name) => !told.has(name)), []);
+    equal("rows and kinds that no play has", Object.keys({ ...ROWS, ...KINDS }).concat("Off").filter((name) => !told.has(name)), []);
     console.log(`why: ${questions} plays; ${[...told].map(([name, count]) => `${name} ${count}`).join(", ")}`);
 });

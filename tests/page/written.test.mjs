@@ -4,22 +4,25 @@
 // SEED=N draws the same again.
 import assert from "node:assert/strict";
 import { test } from "node:test";
-import { readDraft, readPicks, writeDraft, writePicks } from "../../web/kept.js";
-import { LONGEST_CAPTION, MOST_KEPT, PAGES, readLink, readTyped, START, writeLink } from "../../web/link.js";
+import { keep, setCaption } from "../../web/board/state.js";
+import { beginDraft, draftText, titleDraft, writeDraft as typeDraft } from "../../web/editor/state.js";
 import {
     answered, BOXES, DAILY, dayOf, EMPTY, MOST_CARDS, MOST_DAYS, readMemory, Store, todays, todaysEstimates, written,
-} from "../../web/memory.js";
-import { ASKED, drillOf, ESTIMATED, MOST_LISTED, MOST_LOST, QUESTIONS, readDue, TEN, writeDue } from "../../web/questions.js";
-import { classOf, readResults, writeResult } from "../../web/results.js";
+} from "../../web/home/memory.js";
+import { NOBODY } from "../../web/home/state.js";
+import { student } from "../../web/home/view.js";
+import { picksOf, readDraft, readPicks, withPicks, writeDraft, writePicks } from "../../web/kept.js";
+import { LONGEST_TEXT, readEstimate, readLessons, writeLesson } from "../../web/lesson/text.js";
+import { LONGEST_CAPTION, MOST_KEPT, PAGES, readLink, readTyped, START, writeLink } from "../../web/link.js";
 import { ROLLS } from "../../web/points.js";
+import {
+    ASKED, drillOf, ESTIMATED, MOST_LISTED, MOST_LOST, QUESTIONS, readDue, TEN, writeDue,
+} from "../../web/question/questions.js";
+import { LADDER, ladderOf, levelsOf, THEMES } from "../../web/question/themes.js";
 import { readWeight } from "../../web/rules.js";
-import { begin, picksOf, withPicks } from "../../web/state.js";
-import { beginDraft, draftText, titleDraft, writeDraft as typeDraft } from "../../web/state/draft.js";
-import { keep, setCaption } from "../../web/state/board.js";
-import { student } from "../../web/student.js";
+import { begin } from "../../web/state.js";
+import { classOf, readResults, writeResult } from "../../web/teacher/results.js";
 import { decimal } from "../../web/texts.js";
-import { LADDER, ladderOf, levelsOf, THEMES } from "../../web/themes.js";
-import { LONGEST_TEXT, readEstimate, readLessons, writeLesson } from "../../web/trainer.js";
 
 const SEED = Number(process.env.SEED) || 1 + (Date.now() % 1e9);
 const TIMES = 100;
@@ -88,11 +91,13 @@ function answerFrom(draw, { cards }) {
         theme: isPlay ? draw.one(played) : draw.one(ESTIMATED),
     };
     const { points, roll, theme } = cards.length > 0 && draw.below(3) > 0 ? draw.one(cards) : asked;
+    const drill = drillOf({ theme: "all", seed: draw.number(1, 3), ask: roll ? "play" : theme, due: [] });
+    const picks = [[points, roll ?? theme, roll ? "6/off(2) 4/3" : "-1500"]];
     return {
-        points, roll, theme,
+        points, roll, theme, ...(draw.is() ? { run: { drill, picks, count: draw.number(1, 10) } } : {}),
         lost: draw.one([0, draw.number(0, 2000), draw.number(MOST_LOST - 1, 2 * MOST_LOST)]),
         random: draw.number(0, MOST_LOST), level: draw.one(LADDER),
-        isMissed: draw.is(), ten: draw.number(0, 900000),
+        isMissed: draw.is(),
     };
 }
 
@@ -104,7 +109,7 @@ function memoryText(draw) {
     };
     const once = (lines) => [...new Map(lines).values()];
     return [
-        "bearoff memory 4", `learnt ${draw.number(0, 9999999)}`,
+        "bearoff memory 5", `learnt ${draw.number(0, 9999999)}`,
         `sizes ${[1, 2, 3].map(() => draw.number(0, 9999999)).join(" ")}`,
         `rating ${draw.number(0, 999999999)} ${draw.number(0, 999999999)} ${draw.number(0, 9999999)}`,
         ...once(draw.many(9, () => draw.number(1, 99)).map((lesson) => {
@@ -112,7 +117,8 @@ function memoryText(draw) {
             return [lesson, `lesson ${lesson} ${draw.number(0, asked)} ${asked}`];
         })),
         ...once(draw.many(9, () => draw.one(played)).map((name) =>
-            [name, `level ${name} ${draw.one(ladderOf(name))} ${draw.one(["-", "1", "0".repeat(20)])}`])),
+            [name, `level ${name} ${draw.one(ladderOf(name))} ${draw.one(["-", "1", "0".repeat(20)])}${draw.is() ? ""
+                : ` ${draw.number(0, 999999999)} ${draw.number(0, 999999999)} ${draw.number(0, 999999)}`}`])),
         ...once(draw.many(14, () => draw.one([...THEMES.map(({ name }) => name), ...ESTIMATED]))
             .map((name) => [name, `theme ${name} ${tally(999999999)}`])),
         ...once(draw.many(draw.one([9, MOST_DAYS + 9]), () => draw.number(0, 999999))
@@ -124,6 +130,9 @@ function memoryText(draw) {
                 `card ${at} ${roll ?? "-"} ${theme} ${draw.number(0, BOXES.length - 1)} ${
                 draw.number(0, 999999)} ${draw.number(0, MOST_LOST)}`];
         })),
+        ...(draw.is() ? [] : [`ten ${draw.one(played)} ${draw.number(1, 999999999)} play any -`,
+            ...draw.many(9, () => `pick ${draw.points(1).join()} ${draw.one(ROLLS).join("")} 6/off_5/2(3)`)]),
+        ...(draw.is() ? [] : [`ten all ${draw.number(1, 999999999)} pips any - done`]),
     ].join("\n");
 }
 
@@ -136,8 +145,9 @@ const clockFrom = (draw) => ({
 
 // Each number that is drawn of a student's days is one of its picture.
 function compareDrawn(memory, day) {
-    const state = { memory, day, unkept: "", isMemoryOpen: true, memoryFault: "", memoryTold: "" };
+    const state = { ...begin(readLink("")), student: { ...NOBODY, memory, day, isOpen: true } };
     const look = ({ attributes = {}, children = [] }) => {
+        if (attributes.class === "next-board") return; // its frame begins before the points
         for (const name of ["x", "y", "height", "width"]) {
             assert.ok(!(Number(attributes[name] ?? 0) < 0), `${name} is ${attributes[name]}`);
         }
@@ -187,7 +197,7 @@ drawn("the results of a class", (draw) => {
             draw.one([null, 0, draw.number(0, 3000), draw.number(0, 3 * MOST_LOST)])),
     }));
     const texts = pupils.map(({ name, lost, played: plays }) => writeResult(drill, name, lost, plays));
-    const { results, fault } = readResults(texts.join(draw.one(["\n", "\n\nDear teacher,\n", "\r\n"])));
+    const { results, fault } = readResults(texts.join(draw.one(["\n", "\n\nDear teacher,\n", "\r\n", ""])));
     assert.equal(fault, "");
     results.forEach((result, place) => {
         assert.deepEqual(result.drill, drill);
@@ -268,7 +278,7 @@ drawn("what the tab keeps", (draw) => {
         told: readEstimate(draw.one(["-999.999", "999.999", "0", "-0", `${draw.number(0, 999)}.5`])) });
     const runFrom = () => ({ picks: null, guesses: draw.many(4, guess), again: draw.many(2, guess),
         estimates: draw.many(4, estimate), estimatesAgain: draw.many(2, estimate) });
-    const state = { ...begin(readLink("")), drill: drillFrom(draw), ...runFrom(),
+    const state = { ...begin(readLink("")), drill: drillFrom(draw), run: runFrom(),
         runs: new Map(draw.many(12, () => [writeLink({ ...readLink(""), drill: drillFrom(draw) }), runFrom()])) };
     const picks = picksOf(state);
     writePicks(window, picks);
