@@ -264,7 +264,7 @@ class TestCommands:
             ask(f"{name} {it}").output for it in ("--help", "--board --help", "--help --board")
         }
         (text,) = helps
-        assert b"FILE has to be a board file: the whole home board, 90 pips" in text
+        assert b"FILE is a board file: the whole home board, 90 pips" in text
         assert name == "build" or b"With `--board` a database is refused with" in text
 
     # a word that is no UTF-8 text names no file; X stands for it
@@ -299,7 +299,7 @@ class TestCommands:
         ask --help|Usage: bearoff ask <FILE> <LINE>...
         ask --help|A query in quotes: 'mean 0,0,0,0,0,1'
         ask --help|Exit status: 0 every query has its reply, and one at least was answered; 1 none was, I/O error
-        show --help|Usage: bearoff show [OPTIONS] <POSITION>...
+        show --help|Usage: bearoff show [OPTIONS] [FILE] <POSITION>... [ROLL]
         help about|Usage: bearoff about <FILE>
         help about|Exit status: 0 FILE is right; 1 I/O error or out of memory; 2 invalid arguments; 3 FILE failed
         audit --help|Usage: bearoff audit [OPTIONS] <FILE>

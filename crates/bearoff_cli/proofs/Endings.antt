@@ -124,7 +124,7 @@ of_no_file From default fault one = tt
 of_no_file From (build kind pips path) fault one = tt
 of_no_file From (query kind path (Some records)) fault one = tt
 of_no_file From (query kind path None) fault one = inl one
-of_no_file From (show texts) fault one = tt
+of_no_file From (show is_json texts) fault one = tt
 of_no_file From _ fault one = inl one
 
 -- at such a fault nothing has to stay as it was
@@ -174,7 +174,7 @@ module _ (From : List ℕ → List ℕ → Type 0) (before after : World) where
       ),
     ),
   )
-  nothing_written (show texts) fault is can read same = tt
+  nothing_written (show is_json texts) fault is can read same = inl same
   nothing_written (check kind path) fault is can read same = inl same
   nothing_written (about path) fault is can read same = inl same
   nothing_written (audit kind path) fault is can read same = inl same
@@ -184,7 +184,7 @@ module _ (From : List ℕ → List ℕ → Type 0) (before after : World) where
   pub no_read_ran : (classes : List Class) → list_any (is_of Turns) classes ≡ false
       → (asked : Asked) (fault : Fault) → IsAmong classes fault → RunsOut asked before after fault
   no_read_ran classes never (ask path lines) fault is = tt
-  no_read_ran classes never (show texts) fault is = tt
+  no_read_ran classes never (show is_json texts) fault is = tt
   no_read_ran classes never _ fault is = none_ran classes never _ _ fault is
 
   -- such a fault is an end of the request

@@ -175,5 +175,5 @@ leaves_same remaining paths _ old Kept = refl
 pub input_same : (asked : Asked) (input : Option (List ℕ)) → LeavesInput asked input input
 input_same default input = tt
 input_same (query kind path records) input = tt
-input_same (show texts) input = tt
+input_same (show is_json texts) input = tt
 input_same _ input = refl

@@ -189,7 +189,7 @@ faults_of (build kind pips path) =
     if nat_le pips (greatest kind) then build_faults else bound ∷ memory ∷ []
 faults_of (query kind path records) = query_faults
 faults_of (ask path lines) = ask_faults
-faults_of (show texts) = ask_faults
+faults_of (show is_json texts) = ask_faults
 faults_of (upgrade before after) = upgrade_faults
 faults_of _ = check_faults
 

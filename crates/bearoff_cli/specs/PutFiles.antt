@@ -71,7 +71,7 @@ LeavesFor remaining paths _ old new Kept = new ≡ old
 abbrev pub LeavesInput : Asked → Option (List ℕ) → Option (List ℕ) → Type 0
 LeavesInput default input left = Unit {0}
 LeavesInput (query kind path records) input left = Unit {0}
-LeavesInput (show texts) input left = Unit {0}
+LeavesInput (show is_json texts) input left = Unit {0}
 LeavesInput _ input left = left ≡ input
 
 -- words that ask for nothing, or for help, leave both as they were

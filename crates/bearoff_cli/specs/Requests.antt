@@ -1,5 +1,5 @@
 -- What a request leaves of the disk, the input and the output, however it ends.
-use Rattle.std.specs.Prelude.{ℕ, List, Option, None, ◌≡◌, suc, ◌≤◌, ◌⊎◌, [], ◌∷◌, ◌++◌, Some, ◌<◌, Result, Ok, Err}
+use Rattle.std.specs.Prelude.{ℕ, List, Option, None, ◌≡◌, suc, ◌≤◌, ◌⊎◌, [], ◌∷◌, ◌++◌, Some, true, ◌<◌, Result, Ok, Err}
 use Rattle.std.specs.Prelude.{IfErr, OnOk}
 use Rattle.whole_file.specs.Disks.{Moment}
 use Rattle.whole_file.specs.Paths.{Paths, untold_paths}
@@ -15,7 +15,7 @@ use Rattle.epc_query.specs.declared.run_fault.RunFault.{RunFault}
 use Rattle.command_line.specs.Asked.{Asked, default, build, check, query, ask, show, about, audit, upgrade}
 use Rattle.bearoff_cli.specs.Faults.{of_run, IsAmong, IsFaultOf, UsesTurns, faults_of, query_faults, writing, memory}
 use Rattle.bearoff_cli.specs.Faults.{status_of}
-use Rattle.bearoff_cli.specs.Shows.{ShowsTexts}
+use Rattle.bearoff_cli.specs.Shows.{LeavesLines, ShowsLines, ShowsTexts}
 use Rattle.bearoff_cli.specs.declared.fault.Fault.{Fault}
 use Rattle.bearoff_cli.specs.declared.fault.Fault.TheVariants.{Open, File, Memory, Refused, Unanswered}
 use Rattle.bearoff_cli.specs.declared.fault.Hint.{Hint}
@@ -122,8 +122,8 @@ abbrev pub LeavesLevels : Option Kind → (List ℕ → Type 0)
 LeavesLevels kind From old new =
     IsNothingOr kind From (λ file. WritesLevelsPart (kind_as kind file) file old new) old new
 
--- what was written for a request where the program ended with this fault. Of answers by pages and
--- of `show` nothing is said. Where lines are arguments the input is left alone
+-- what was written for a request where the program ended with this fault. Of answers by pages
+-- nothing is said. Where lines are arguments the input is left alone
 abbrev pub Leaves : (List ℕ → List ℕ → Type 0) → Asked → World → World → Fault → Type 0
 Leaves From default before after fault = WhereTold before.input (λ given.
     (after.output ≡ before.output) ⊎ ((file : List ℕ) × IsBuilt (usual_version 8) 8 file
@@ -136,6 +136,9 @@ Leaves From (query kind path None) before after fault = LeavesReplies (asked_as 
     before.input after.input before.output after.output fault
 Leaves From (ask path lines) before after fault = (after.input ≡ before.input)
     × LeavesWords (From path) lines before.output after.output fault
+Leaves From (show is_json texts) before after fault = (after.output ≡ before.output)
+    ⊎ ShowsTexts (LeavesLines before.output after.output fault) From is_json texts
+    before.input after.input
 Leaves From (about path) before after fault = LeavesText None (From path)
     (λ file text. text ≡ about_file file) before.output after.output
 Leaves From (audit kind path) before after fault =
@@ -148,7 +151,7 @@ Leaves From _ before after fault = Unit {0}
 -- arguments
 abbrev pub RunsOut : Asked → World → World → Fault → Type 0
 RunsOut (ask path lines) before after fault = Unit {0}
-RunsOut (show texts) before after fault = Unit {0}
+RunsOut (show is_json texts) before after fault = Unit {0}
 RunsOut _ before after fault = UsesTurns before.input after.input fault
 
 -- a request ended so: with a fault that it can end with, which comes where it is said to, and with
@@ -188,8 +191,8 @@ IsRefusalOf From asked before after (Explained it) = (asked ≡ about it.path.no
     × IsOfFile it.fault it.reason × IsEndOf From asked before after it.fault
 
 -- what was read of the input and of an opened file and written to the output, where the request was
--- fulfilled. Nothing is said of `show`, nor of answers by pages, as no contract of the library
--- says what a seek and a read give together. Where lines are arguments the input is left alone
+-- fulfilled. Nothing is said of answers by pages, as no contract of the library says what a seek
+-- and a read give together. Where lines are arguments the input is left alone
 abbrev pub IsDone : {W : Type 0} → (List ℕ → List ℕ → Type 0) → (W → Option (List ℕ)) → Asked
     → World → World → Type 0
 IsDone From contents default before after = WhereTold before.input
@@ -203,8 +206,9 @@ IsDone From contents (query kind path None) before after = WhereTold before.inpu
     AreAnsweredFrom (asked_as kind) (From path) given after.input before.output after.output)
 IsDone From contents (ask path lines) before after = (after.input ≡ before.input)
     × AnswersWords None (From path) lines before.output after.output
-IsDone From contents (show texts) before after =
-    ShowsTexts From texts before.input after.input before.output after.output
+IsDone From contents (show is_json texts) before after =
+    ShowsTexts (ShowsLines true before.output after.output) From is_json texts
+    before.input after.input
 IsDone From contents (about path) before after =
     Says None (From path) (λ file text. text ≡ about_file file) before.output after.output
 IsDone From contents (audit kind path) before after = Says (asked_as kind) (From path)

@@ -9,9 +9,14 @@ use Rattle.db_layout.specs.declared.stated.Kind.{Kind}
 use Rattle.db_reader.specs.Telling.{WhereTold}
 use Rattle.retrograde.specs.BuiltBoards.{IsBuiltBoard}
 use Rattle.epc_query.specs.Kinds.{IsRightAs, stated_kind}
-use Rattle.race_summary.specs.Shown.{IsShown}
+use Rattle.db_layout.specs.Writes.{AppendsPart}
+use Rattle.race_summary.specs.Shown.{IsShown, IsShownFirst}
 use Rattle.race_summary.specs.Words.{IsSplit}
 use Rattle.race_summary.specs.declared.lines.Form.{Form}
+use Rattle.race_summary.specs.declared.lines.Form.TheVariants.{Json, Plain}
+use Rattle.bearoff_cli.specs.declared.fault.Fault.{Fault}
+use Rattle.bearoff_cli.specs.declared.fault.Fault.TheVariants.{Unanswered, Write}
+use Rattle.bearoff_cli.specs.declared.fault.Hint.TheVariants.{Position}
 
 -- a text without the line feed at its end, if it has one
 abbrev pub unended : List ℕ → List ℕ
@@ -33,39 +38,70 @@ AreShown opened roll form (line ∷ lines) some text = (has more : Bool) × (fir
     × IsShown opened line roll form has first × AreShown opened roll form lines more rest
     × (some ≡ (has || more)) × (text ≡ first ++ rest)
 
--- what is shown of each line over an opened file was written, and one has a summary
-pub record ShowsLines (opened : Kind × List ℕ) (roll : Option Throw) (form : Form)
-    (lines : List ℕ) (old new : Option (List ℕ)) : Type 0 where
+-- what is shown of each line over an opened file was written, and whether one has a summary
+pub record ShowsLines (some : Bool) (old new : Option (List ℕ)) (opened : Kind × List ℕ)
+    (roll : Option Throw) (form : Form) (lines : List ℕ) : Type 0 where
   pub text : List ℕ
-  pub shown : AreShown opened roll form (shown_lines lines) true text
+  pub shown : AreShown opened roll form (shown_lines lines) some text
   pub written : Appends old new text
+
+-- the text has the first numbers of what is shown of the first line, if there is one
+abbrev pub IsShownNext : Kind × List ℕ → Option Throw → Form → List (List ℕ) → List ℕ → Type 0
+IsShownNext opened roll form [] text = text ≡ []
+IsShownNext opened roll form (line ∷ lines) text = IsShownFirst opened line roll form text
+
+-- a prefix of what is shown of the first lines and of the first numbers of the next was written
+pub record ShowsPart (old new : Option (List ℕ)) (opened : Kind × List ℕ) (roll : Option Throw)
+    (form : Form) (lines : List ℕ) : Type 0 where
+  pub before : List (List ℕ)
+  pub after : List (List ℕ)
+  pub are : shown_lines lines ≡ before ++ after
+  pub some : Bool
+  pub text : List ℕ
+  pub shown : AreShown opened roll form before some text
+  pub next : List ℕ
+  pub first : IsShownNext opened roll form after next
+  pub written : AppendsPart old new (text ++ next)
+
+-- what was written of lines where `show` failed so: of each one why it has no summary, or a part
+abbrev pub LeavesLines : Option (List ℕ) → Option (List ℕ) → Fault → Kind × List ℕ → Option Throw
+    → Form → List ℕ → Type 0
+LeavesLines old new fault opened roll form lines =
+    ((fault ≡ Unanswered Position) × ShowsLines false old new opened roll form lines)
+    ⊎ ((fault ≡ Write) × ShowsPart old new opened roll form lines)
 
 -- the lines are these words, and the input is left alone; or they are the input, for the word -
 abbrev pub AreGiven : List ℕ → Option (List ℕ) → Option (List ℕ) → List ℕ → Type 0
 AreGiven words input left lines = ((left ≡ input) × (lines ≡ words))
     ⊎ (IsTrimAscii words (codes "-") × WhereTold input (λ given. lines ≡ given))
 
--- what is shown of the lines that words give was written, over a right file
-pub record ShowsWords (file : List ℕ) (roll : Option Throw) (form : Form) (words : List ℕ)
-    (input left old new : Option (List ℕ)) : Type 0 where
+-- this was written of the lines that words give, over a right file
+pub record ShowsWords (Says : Kind × List ℕ → Option Throw → Form → List ℕ → Type 0)
+    (file : List ℕ) (roll : Option Throw) (form : Form) (words : List ℕ)
+    (input left : Option (List ℕ)) : Type 0 where
   pub right : IsRightAs (stated_kind file) file
   pub lines : List ℕ
   pub given : AreGiven words input left lines
-  pub shows : ShowsLines (stated_kind file, file) roll form lines old new
+  pub says : Says (stated_kind file, file) roll form lines
+
+-- JSON is written where it is asked for
+abbrev pub form_of : Bool → Form
+form_of true = Json
+form_of false = Plain
 
 -- the file was read from where a path leads, or was built of the whole board
 abbrev pub IsFileOf : (List ℕ → List ℕ → Type 0) → Option (List ℕ) → List ℕ → Type 0
 IsFileOf From None file = IsBuiltBoard 90 file
 IsFileOf From (Some path) file = From path file
 
--- what is shown of these words was written, over the file that one of them names if there is one
-pub record ShowsTexts (From : List ℕ → List ℕ → Type 0) (texts : List ℕ)
-    (input left old new : Option (List ℕ)) : Type 0 where
+-- this was written of these words, over the file that one of them names if there is one
+pub record ShowsTexts (Says : Kind × List ℕ → Option Throw → Form → List ℕ → Type 0)
+    (From : List ℕ → List ℕ → Type 0) (is_json : Bool) (texts : List ℕ)
+    (input left : Option (List ℕ)) : Type 0 where
   pub path : Option (List ℕ)
   pub words : List ℕ
   pub roll : Option Throw
   pub split : IsSplit texts path words roll
   pub file : List ℕ
   pub is : IsFileOf From path file
-  pub form : Form
-  pub shows : ShowsWords file roll form words input left old new
+  pub shows : ShowsWords Says file roll (form_of is_json) words input left

@@ -35,7 +35,6 @@ use db_layout::{COMPACT_VERSION, Kind, WriteFault, write_bytes};
 use db_reader::{FileSource, Paged, Table, Whole};
 use epc_query::{accept_stated, run, stated_kind};
 use itoa::Buffer;
-use race_summary::Form;
 use ranking::Ranks;
 use std::alloc::{AllocError, Global};
 use std::convert::AsStr;
@@ -295,8 +294,7 @@ fn fulfil<'a, D: Disk, I: Read, O: Write>(
             refused(answer_words(disk, alloc, path, lines.as_str(), output))
         }
         Request::Show { words, is_json } => {
-            let form = if is_json { Form::Json } else { Form::Plain };
-            refused(show(disk, alloc, words.as_str(), form, input, output))
+            refused(show(disk, alloc, words.as_str(), is_json, input, output))
         }
         Request::About { path } => about_file(disk, alloc, path, output),
         Request::Audit { kind, path } => {

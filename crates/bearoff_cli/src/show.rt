@@ -1,13 +1,14 @@
 //! `show`: what a file, or the whole board, says of positions in any notation.
-ghost use Rattle.std.specs.Prelude.{◌≡◌, ◌<◌, ℕ, List, [], ◌∷◌, length, IfOk, IfErr, IfSome, OnOk, MatchOption};
+ghost use Rattle.std.specs.Prelude.{◌≡◌, ◌⊎◌, ◌<◌, ℕ, true, List, [], ◌∷◌, length, IfOk, IfErr, IfSome, OnOk, OnErr, MatchOption};
 ghost use Rattle.std.specs.Io.KnownBytes.{Appends};
+ghost use Rattle.db_layout.specs.Writes.{AppendsPart};
 ghost use Rattle.epc_query.specs.Kinds.{IsAcceptedAs};
 ghost use Rattle.bearoff_cli.specs.Faults.{IsAmong, ask_faults, status_of};
 ghost use Rattle.bearoff_cli.specs.FileAnswers.{IsReadFrom};
 ghost use Rattle.bearoff_cli.specs.declared.fault.Fault.TheVariants.{Write};
 ghost use Rattle.bearoff_cli.specs.PutFiles.{KeepsIfRefused};
-ghost use Rattle.bearoff_cli.specs.Shows.{ShowsLines, ShowsTexts, ShowsWords, parts_of, unended};
-ghost use Rattle.race_summary.specs.Shown.{IsShown};
+ghost use Rattle.bearoff_cli.specs.Shows.{LeavesLines, ShowsLines, ShowsTexts, ShowsWords, form_of, parts_of, unended};
+ghost use Rattle.race_summary.specs.Shown.{IsShown, IsShownFirst};
 
 use crate::fault::{Fault, Hint};
 use crate::files::{MOST_BYTES, built_file, flush, read_bytes, read_file};
@@ -29,21 +30,26 @@ pub fn show<D: Disk, I: Read, O: Write>(
     disk: &mut D,
     alloc: Global,
     words: &str,
-    form: Form,
+    is_json: bool,
     input: &mut I,
     output: &mut O,
 ) -> Result<(), Fault>
     ensures refused { KeepsIfRefused result (O.contents output.old) (O.contents output.new) }
     ensures cause { IfErr result (IsAmong ask_faults) }
-    ensures shown { OnOk result (ShowsTexts (IsReadFrom D.Reader.remaining (D.paths disk.old)
-        (D.told disk.old)) words.now (I.remaining input.old) (I.remaining input.new)
-        (O.contents output.old) (O.contents output.new)) }
+    ensures shown { OnOk result (ShowsTexts
+        (ShowsLines true (O.contents output.old) (O.contents output.new))
+        (IsReadFrom D.Reader.remaining (D.paths disk.old) (D.told disk.old)) is_json words.now
+        (I.remaining input.old) (I.remaining input.new)) }
+    ensures left { IfErr result (λ fault. (O.contents output.new ≡ O.contents output.old)
+        ⊎ ShowsTexts (LeavesLines (O.contents output.old) (O.contents output.new) fault)
+        (IsReadFrom D.Reader.remaining (D.paths disk.old) (D.told disk.old)) is_json words.now
+        (I.remaining input.old) (I.remaining input.new)) }
     ensures stays { D.told disk.new ≡ D.told disk.old }
 {
     let given = split(words);
     let wish = &Wish {
         roll: given.roll,
-        form,
+        form: form_of(is_json),
     };
     match given.file {
         Some(path) => {
@@ -55,6 +61,13 @@ pub fn show<D: Disk, I: Read, O: Write>(
             show_file(alloc, file.as_slice(), given.lines, wish, input, output)
         }
     }
+}
+
+/// JSON is written where it is asked for.
+fn form_of(is_json: bool) -> Form
+    ensures { result ≡ form_of is_json }
+{
+    if is_json { Form::Json } else { Form::Plain }
 }
 
 /// What is shown of each position.
@@ -75,9 +88,12 @@ fn show_file<I: Read, O: Write>(
 ) -> Result<(), Fault>
     ensures refused { KeepsIfRefused result (O.contents output.old) (O.contents output.new) }
     ensures cause { IfErr result (IsAmong ask_faults) }
-    ensures shown { OnOk result (ShowsWords file.now wish.now.roll wish.now.form lines.now
-        (I.remaining input.old) (I.remaining input.new)
-        (O.contents output.old) (O.contents output.new)) }
+    ensures shown { OnOk result (ShowsWords
+        (ShowsLines true (O.contents output.old) (O.contents output.new)) file.now
+        wish.now.roll wish.now.form lines.now (I.remaining input.old) (I.remaining input.new)) }
+    ensures left { IfErr result (λ fault. (O.contents output.new ≡ O.contents output.old)
+        ⊎ ShowsWords (LeavesLines (O.contents output.old) (O.contents output.new) fault) file.now
+        wish.now.roll wish.now.form lines.now (I.remaining input.old) (I.remaining input.new)) }
 {
     let kind = stated_kind(file);
     let accepted = accept_stated(file)?;
@@ -106,8 +122,10 @@ fn show_accepted<O: Write>(
     requires { IsAcceptedAs kind file.now accepted }
     ensures cause { IfErr result (IsAmong ask_faults) }
     ensures status { IfErr result (λ fault. status_of fault ≡ 1) }
-    ensures shown { OnOk result (ShowsLines (kind, file.now) wish.now.roll wish.now.form lines.now
-        (O.contents output.old) (O.contents output.new)) }
+    ensures shown { OnOk result (ShowsLines true (O.contents output.old) (O.contents output.new)
+        (kind, file.now) wish.now.roll wish.now.form lines.now) }
+    ensures left { IfErr result (λ fault. LeavesLines (O.contents output.old)
+        (O.contents output.new) fault (kind, file.now) wish.now.roll wish.now.form lines.now) }
 {
     let ranks = RankTable::new();
     let opened = Opened::kept(kind, file, accepted, &ranks);
@@ -123,8 +141,10 @@ fn show_lines<O: Write>(
 ) -> Result<(), Fault>
     ensures cause { IfErr result (IsAmong ask_faults) }
     ensures status { IfErr result (λ fault. status_of fault ≡ 1) }
-    ensures shown { OnOk result (ShowsLines opened.now wish.now.roll wish.now.form lines.now
-        (O.contents output.old) (O.contents output.new)) }
+    ensures shown { OnOk result (ShowsLines true (O.contents output.old) (O.contents output.new)
+        opened.now wish.now.roll wish.now.form lines.now) }
+    ensures left { IfErr result (λ fault. LeavesLines (O.contents output.old)
+        (O.contents output.new) fault opened.now wish.now.roll wish.now.form lines.now) }
 {
     let mut text = Text::new();
     let mut is_answered = false;
@@ -180,6 +200,9 @@ fn show_line<O: Write>(
     ensures shown { IfOk result (λ has_summary. (text : List ℕ)
         × IsShown opened.now line.now wish.now.roll wish.now.form has_summary text
         × Appends (O.contents output.old) (O.contents output.new) text) }
+    ensures left { OnErr result ((text : List ℕ)
+        × IsShownFirst opened.now line.now wish.now.roll wish.now.form text
+        × AppendsPart (O.contents output.old) (O.contents output.new) text) }
 {
     write_summary(opened, line, wish.roll, wish.form, text, output).map_err(|_| Fault::Write)
 }

@@ -1,10 +1,10 @@
 -- `--board`, or an option with a number, and then a file.
-use Rattle.std.proofs.Common.{◌≡◌, ◌∙◌, ◌==◌, ◌&&◌, cond, ℕ, true, refl, ap, ap₂, List, [], ◌∷◌, Some, None, codes}
+use Rattle.std.proofs.Common.{◌≡◌, ◌∙◌, ◌==◌, ◌&&◌, cond, ℕ, true, refl, ap, ap₂, List, [], ◌∷◌, Some, None, codes, fold}
 use Rattle.std.proofs.Common.{◌||◌, false, pos}
 use Rattle.std.specs.Str.{bytes_eq}
 use Rattle.clap.specs.Words.{App, Text, built, first_of, matches_of, one_of, takes}
 use Rattle.clap.specs.Simple.{filled, Shape}
-use Rattle.clap.specs.Walk.{Held, Walk, arg_by_index, finished, nothing_held, to_positional, used, value, walk}
+use Rattle.clap.specs.Walk.{Held, Walk, finished, nothing_held, used, value, walk}
 use Rattle.clap.specs.Walk.{walk_from, walked, Rule, Step, after_step, long_or_other, option, plain_word}
 use Rattle.clap.specs.Walk.{short_or_plain, trailing, word_met}
 use Rattle.clap.specs.Takes.{step_passes, turn_passes, walk_passes, bundle_passes, flag_word_passes, word_passes}
@@ -14,9 +14,8 @@ use Rattle.command_line.specs.Commands.{board_rule, build_app, file_app, query_a
 use Rattle.db_layout.specs.declared.stated.Kind.{Kind}
 use Rattle.db_layout.specs.declared.stated.Kind.TheVariants.{Database, Board}
 use Rattle.command_line.proofs.Contained.{numeral_is_plain}
-use Rattle.command_line.proofs.PlainWords.{bare_first, bare_none, bare_takes, file_first, file_takes, is_false}
-use Rattle.command_line.proofs.PlainWords.{plain_turn, plain_walked, taken, walk_at, no_dashes, no_long, no_short}
-use Rattle.command_line.proofs.PlainWords.{three_passes, three_walked}
+use Rattle.command_line.proofs.PlainWords.{Leads, either, file_finds, file_takes, is_false, no_dashes, no_long}
+use Rattle.command_line.proofs.PlainWords.{no_short, taken, walk_at}
 use Rattle.clap.specs.Lexer.{long_of, without_minus}
 use Rattle.clap.specs.ValueTests.{accepts}
 use Rattle.std.specs.Option.{option_map_or}
@@ -28,9 +27,12 @@ use Rattle.clap.specs.declared.builder.value_parser.ValueParser.TheVariants as v
 pub plain_kind : (word : Text) (rest : List Text) → IsPlain word
     → kind_in (word ∷ rest) ≡ kind_in rest
 plain_kind [] rest e = refl
-plain_kind (x ∷ xs) rest e =
-    ap (λ b. cond (b && bytes_eq xs (codes "-board")) Board
-    (cond (b && bytes_eq xs (codes "-")) Database (kind_in rest))) (is_false (x == 45) e)
+plain_kind (x ∷ []) rest e = either (x == 45)
+    (λ b. cond (b && false) Board (cond (b && false) Database (kind_in rest))) (kind_in rest) refl
+    refl
+plain_kind (x ∷ y ∷ xs) rest e =
+    ap (λ b. cond (b && bytes_eq (y ∷ xs) (codes "-board")) Board
+    (cond (b && bytes_eq (y ∷ xs) (codes "-")) Database (kind_in rest))) (is_false (x == 45) e)
 
 -- a number and a path are of a database
 pub number_kind : (n : ℕ) (digits path : Text) → Writes n digits → IsPlain path
@@ -50,161 +52,107 @@ flagged_kind Board path plain = refl
 abbrev board_held : Held
 board_held = record { rows = used (filled board_rule) [] []; pending = None; skip = 0 }
 
--- the words
-abbrev pub board_words : Text → List Text
-board_words path = codes "--board" ∷ path ∷ []
-
-module _ (app : App) (path : Text) (plain : IsPlain path)
-    (flag : walked (built app).top.rules [] (walk_from nothing_held) (codes "--board")
-    ≡ walk_at board_held 1)
-    (flag_turn : turn_passes (built app).top [] (walk_from nothing_held) (codes "--board") ≡ true)
-    (file_turn : step_passes (built app).top 1 board_held value ≡ true) where
-  -- the walk over them
-  abbrev board_walk : Walk
-  board_walk = to_positional (built app).top.rules (arg_by_index (built app).top.rules 1) path
-      (walk_at board_held 1) board_held
-
-  board_walked : walk (built app).top.rules [] nothing_held (board_words path) ≡ board_walk
-  board_walked = ap (λ w. walked (built app).top.rules [] w path) flag
-      ∙ plain_walked path plain (built app).top.rules 1 board_held
-
-  -- the walk over the words passes
-  board_passes : walk_passes (built app).top [] (walk_from nothing_held) (board_words path) ≡ true
-  unfolding walk_passes
-  board_passes = ap₂ (λ a b. a && (b && true)) flag_turn
-      (ap (λ w. turn_passes (built app).top [] w path) flag
-      ∙ plain_turn path plain (built app).top 1 board_held ∙ file_turn)
-
--- ---- a command of some name that knows no other option
-
-module _ (name path : Text) (plain : IsPlain path) where
-  named_flag : walked (built (file_app name)).top.rules [] (walk_from nothing_held)
-      (codes "--board") ≡ walk_at board_held 1
-  unfolding clap_on_literals
-  named_flag = refl
-
-  named_flag_turn : turn_passes (built (file_app name)).top [] (walk_from nothing_held)
-      (codes "--board") ≡ true
-  unfolding clap_on_literals
-  named_flag_turn = refl
-
-  named_walked : walk (built (file_app name)).top.rules [] nothing_held (board_words path)
-      ≡ board_walk (file_app name) path plain named_flag named_flag_turn refl
-  named_walked = board_walked (file_app name) path plain named_flag named_flag_turn refl
-
-  -- it takes the words
-  pub named_takes : takes (file_app name) (board_words path) ≡ true
-  named_takes = ap₂ (taken (built (file_app name)))
-      (board_passes (file_app name) path plain named_flag named_flag_turn refl)
-      named_walked
-
-  -- the words of a file give the path
-  pub named_first : first_of (codes "FILE") (matches_of (file_app name) (board_words path))
-      ≡ Some path
-  named_first =
-      ap (λ (w : Walk). first_of (codes "FILE") (finished (built (file_app name)).top.rules w.held))
-      named_walked
-
--- ---- build --board FILE
-
-module _ (path : Text) (plain : IsPlain path) where
-  build_board_flag : walked (built build_app).top.rules [] (walk_from nothing_held)
-      (codes "--board") ≡ walk_at board_held 1
-  unfolding clap_on_literals
-  build_board_flag = refl
-
-  build_board_flag_turn : turn_passes (built build_app).top [] (walk_from nothing_held)
-      (codes "--board") ≡ true
-  unfolding clap_on_literals
-  build_board_flag_turn = refl
-
-  build_board_walked : walk (built build_app).top.rules [] nothing_held (board_words path)
-      ≡ board_walk build_app path plain build_board_flag build_board_flag_turn refl
-  build_board_walked = board_walked build_app path plain build_board_flag build_board_flag_turn refl
-
-  -- it takes the words
-  pub build_board_takes : takes build_app (board_words path) ≡ true
-  build_board_takes = ap₂ (taken (built build_app))
-      (board_passes build_app path plain build_board_flag build_board_flag_turn refl)
-      build_board_walked
-
-  -- the words of a build give the path
-  pub build_board_first : first_of (codes "FILE") (matches_of build_app (board_words path))
-      ≡ Some path
-  build_board_first =
-      ap (λ (w : Walk). first_of (codes "FILE") (finished (built build_app).top.rules w.held))
-      build_board_walked
-
-  -- the words of a build give no value of `--pips`
-  pub build_board_none : one_of (codes "pips") (matches_of build_app (board_words path)) ≡ None
-  build_board_none =
-      ap (λ (w : Walk). one_of (codes "pips") (finished (built build_app).top.rules w.held))
-      build_board_walked
-
--- ---- query --board FILE
-
-module _ (path : Text) (plain : IsPlain path) where
-  query_board_flag : walked (built query_app).top.rules [] (walk_from nothing_held)
-      (codes "--board") ≡ walk_at board_held 1
-  unfolding clap_on_literals
-  query_board_flag = refl
-
-  query_board_flag_turn : turn_passes (built query_app).top [] (walk_from nothing_held)
-      (codes "--board") ≡ true
-  unfolding clap_on_literals
-  query_board_flag_turn = refl
-
-  query_board_walked : walk (built query_app).top.rules [] nothing_held (board_words path)
-      ≡ board_walk query_app path plain query_board_flag query_board_flag_turn refl
-  query_board_walked = board_walked query_app path plain query_board_flag query_board_flag_turn refl
-
-  -- it takes the words
-  pub query_board_takes : takes query_app (board_words path) ≡ true
-  query_board_takes = ap₂ (taken (built query_app))
-      (board_passes query_app path plain query_board_flag query_board_flag_turn refl)
-      query_board_walked
-
-  -- the words of a query give the path
-  pub query_board_first : first_of (codes "FILE") (matches_of query_app (board_words path))
-      ≡ Some path
-  query_board_first =
-      ap (λ (w : Walk). first_of (codes "FILE") (finished (built query_app).top.rules w.held))
-      query_board_walked
-
-  -- the words of a query give no value of `--cache`
-  pub query_board_none : one_of (codes "cache") (matches_of query_app (board_words path)) ≡ None
-  query_board_none =
-      ap (λ (w : Walk). one_of (codes "cache") (finished (built query_app).top.rules w.held))
-      query_board_walked
+abbrev kind_held : Kind → Held
+kind_held Database = nothing_held
+kind_held Board = board_held
 
 -- ---- a file of a kind
+
+file_leads : (name : Text) (kind : Kind) → Leads (file_app name) (kind_held kind) (flagged kind)
+unfolding clap_on_literals
+file_leads name Database = record {
+  takes_by = λ more. refl;
+  finds_by = λ more. refl;
+  walks = λ more. refl;
+  passes = λ more is. is;
+  turn = refl;
+}
+file_leads name Board = record {
+  takes_by = λ more. refl;
+  finds_by = λ more. refl;
+  walks = λ more. refl;
+  passes = λ more is. is;
+  turn = refl;
+}
 
 -- a command of some name takes the words, and gives the path
 pub kind_takes : (name : Text) (kind : Kind) (path : Text) → IsPlain path
     → takes (file_app name) (flagged kind (path ∷ [])) ≡ true
-kind_takes name Database path plain = file_takes name path plain
-kind_takes name Board path plain = named_takes name path plain
+kind_takes name Database path plain = file_takes (file_leads name Database) path plain refl
+kind_takes name Board path plain = file_takes (file_leads name Board) path plain refl
 
 pub kind_first : (name : Text) (kind : Kind) (path : Text) → IsPlain path
     → first_of (codes "FILE") (matches_of (file_app name) (flagged kind (path ∷ []))) ≡ Some path
-kind_first name Database path plain = file_first name path plain
-kind_first name Board path plain = named_first name path plain
+kind_first name Database path plain =
+    file_finds (file_leads name Database) path plain (first_of (codes "FILE"))
+kind_first name Board path plain =
+    file_finds (file_leads name Board) path plain (first_of (codes "FILE"))
 
--- `query` takes the words of either kind, and then gives no value of `--cache`
+-- ---- build --board FILE
+
+build_leads : Leads build_app board_held (flagged Board)
+unfolding clap_on_literals
+build_leads = record {
+  takes_by = λ more. refl;
+  finds_by = λ more. refl;
+  walks = λ more. refl;
+  passes = λ more is. is;
+  turn = refl;
+}
+
+module _ (path : Text) (plain : IsPlain path) where
+  -- it takes the words
+  pub build_board_takes : takes build_app (flagged Board (path ∷ [])) ≡ true
+  build_board_takes = file_takes build_leads path plain refl
+
+  -- the words give the path, and no value of `--pips`
+  pub build_board_first : first_of (codes "FILE") (matches_of build_app
+      (flagged Board (path ∷ []))) ≡ Some path
+  build_board_first = file_finds build_leads path plain (first_of (codes "FILE"))
+
+  pub build_board_none : one_of (codes "pips") (matches_of build_app
+      (flagged Board (path ∷ []))) ≡ None
+  build_board_none = file_finds build_leads path plain (one_of (codes "pips"))
+
+-- ---- `query` and a file of a kind
+
+query_leads : (kind : Kind) → Leads query_app (kind_held kind) (flagged kind)
+unfolding clap_on_literals
+query_leads Database = record {
+  takes_by = λ more. refl;
+  finds_by = λ more. refl;
+  walks = λ more. refl;
+  passes = λ more is. is;
+  turn = refl;
+}
+query_leads Board = record {
+  takes_by = λ more. refl;
+  finds_by = λ more. refl;
+  walks = λ more. refl;
+  passes = λ more is. is;
+  turn = refl;
+}
+
+-- it takes the words
 pub query_kind_takes : (kind : Kind) (path : Text) → IsPlain path
     → takes query_app (flagged kind (path ∷ [])) ≡ true
-query_kind_takes Database path plain = bare_takes path plain
-query_kind_takes Board path plain = query_board_takes path plain
+query_kind_takes Database path plain = file_takes (query_leads Database) path plain refl
+query_kind_takes Board path plain = file_takes (query_leads Board) path plain refl
 
+-- the words give the path, and no value of `--cache`
 pub query_kind_first : (kind : Kind) (path : Text) → IsPlain path
     → first_of (codes "FILE") (matches_of query_app (flagged kind (path ∷ []))) ≡ Some path
-query_kind_first Database path plain = bare_first path plain
-query_kind_first Board path plain = query_board_first path plain
+query_kind_first Database path plain =
+    file_finds (query_leads Database) path plain (first_of (codes "FILE"))
+query_kind_first Board path plain =
+    file_finds (query_leads Board) path plain (first_of (codes "FILE"))
 
 pub query_kind_none : (kind : Kind) (path : Text) → IsPlain path
     → one_of (codes "cache") (matches_of query_app (flagged kind (path ∷ []))) ≡ None
-query_kind_none Database path plain = bare_none path plain
-query_kind_none Board path plain = query_board_none path plain
+query_kind_none Database path plain =
+    file_finds (query_leads Database) path plain (one_of (codes "cache"))
+query_kind_none Board path plain =
+    file_finds (query_leads Board) path plain (one_of (codes "cache"))
 
 -- ---- An option with a number, and then a file
 
@@ -251,142 +199,84 @@ option_held id = record { rows = []; pending = Some (id, []); skip = 0 }
 abbrev value_held : Text → Text → Held
 value_held id digits = record { rows = []; pending = Some (id, digits ∷ []); skip = 0 }
 
+-- an option of a command waits for a number, takes it and then a file
+module _ (app : App) (id flag digits : Text) (plain : IsPlain digits)
+    (met : walked (built app).top.rules [] (walk_from nothing_held) flag
+    ≡ waiting_for id (option_held id) 1)
+    (passed : turn_passes (built app).top [] (walk_from nothing_held) flag ≡ true)
+    (taken_up : after_step (built app).top.rules digits (waiting_for id (option_held id) 1)
+    (plain_word (built app).top.rules (option id) digits (option_held id)).0
+    (plain_word (built app).top.rules (option id) digits (option_held id)).1
+    ≡ walk_at (value_held id digits) 1)
+    (steps : step_passes (built app).top 1
+    (plain_word (built app).top.rules (option id) digits (option_held id)).0
+    (plain_word (built app).top.rules (option id) digits (option_held id)).1 ≡ true)
+    (turn : step_passes (built app).top 1 (value_held id digits) value ≡ true)
+    (takes_by : (more : List Text) → takes app (flag ∷ digits ∷ more) ≡ taken (built app)
+    (walk_passes (built app).top [] (walk_from nothing_held) (flag ∷ digits ∷ more))
+    (walk (built app).top.rules [] nothing_held (flag ∷ digits ∷ more)))
+    (finds_by : (more : List Text) → matches_of app (flag ∷ digits ∷ more)
+    ≡ finished (built app).top.rules
+    (walk (built app).top.rules [] nothing_held (flag ∷ digits ∷ more)).held) where
+  number_walked : walked (built app).top.rules []
+      (walked (built app).top.rules [] (walk_from nothing_held) flag) digits
+      ≡ walk_at (value_held id digits) 1
+  number_walked = ap (λ w. walked (built app).top.rules [] w digits) met
+      ∙ value_walked digits plain id (built app).top.rules 1 (option_held id) ∙ taken_up
+
+  option_leads : Leads app (value_held id digits) (λ more. flag ∷ digits ∷ more)
+  unfolding walk_passes
+  option_leads = record {
+    takes_by = takes_by;
+    finds_by = finds_by;
+    walks = λ more. ap (λ w. fold (walked (built app).top.rules []) w more) number_walked;
+    passes = λ more is. ap₂ (λ a b. a && b) passed (ap₂ (λ a b. a && b)
+        (ap (λ w. turn_passes (built app).top [] w digits) met
+        ∙ value_turn digits plain id (built app).top 1 (option_held id) ∙ steps)
+        (ap (λ w. walk_passes (built app).top [] w more) number_walked ∙ is));
+    turn = turn;
+  }
+
 -- ---- build --pips N FILE
 
 module _ (digits path : Text) (digits_plain : IsPlain digits)
-    (passes : accepts false (vp.Signed (pos 0) (pos 255)) digits ≡ true) (plain : IsPlain path)
+    (accepted : accepts false (vp.Signed (pos 0) (pos 255)) digits ≡ true) (plain : IsPlain path)
   where
-    abbrev build_built : App
-    build_built = built build_app
-
-    abbrev build_rules : List Rule
-    build_rules = build_built.top.rules
-
-    abbrev build_words : List Text
-    build_words = codes "--pips" ∷ digits ∷ path ∷ []
-
-    build_flag : walked build_rules [] (walk_from nothing_held) (codes "--pips")
-        ≡ waiting_for (codes "pips") (option_held (codes "pips")) 1
+    pips_lead : Leads build_app (value_held (codes "pips") digits)
+        (λ more. codes "--pips" ∷ digits ∷ more)
     unfolding clap_on_literals
-    build_flag = refl
+    pips_lead = option_leads build_app (codes "pips") (codes "--pips") digits digits_plain refl refl
+        refl refl (ap (λ b. b && true) accepted) (λ more. refl) (λ more. refl)
 
-    build_flag_turn : turn_passes build_built.top [] (walk_from nothing_held) (codes "--pips")
-        ≡ true
-    unfolding clap_on_literals
-    build_flag_turn = refl
+    pub build_takes : takes build_app (codes "--pips" ∷ digits ∷ path ∷ []) ≡ true
+    build_takes = file_takes pips_lead path plain refl
 
-    build_number : walked build_rules [] (waiting_for (codes "pips") (option_held (codes "pips")) 1)
-        digits ≡ walk_at (value_held (codes "pips") digits) 1
-    build_number = value_walked digits digits_plain (codes "pips") build_rules 1
-        (option_held (codes "pips"))
+    pub build_path : first_of (codes "FILE") (matches_of build_app
+        (codes "--pips" ∷ digits ∷ path ∷ [])) ≡ Some path
+    build_path = file_finds pips_lead path plain (first_of (codes "FILE"))
 
-    build_number_turn : turn_passes build_built.top []
-        (waiting_for (codes "pips") (option_held (codes "pips")) 1) digits ≡ true
-    build_number_turn =
-        value_turn digits digits_plain (codes "pips") build_built.top 1 (option_held (codes "pips"))
-
-    abbrev build_walk : Walk
-    build_walk = to_positional build_rules (arg_by_index build_rules 1) path
-        (walk_at (value_held (codes "pips") digits) 1) (value_held (codes "pips") digits)
-
-    build_file : walked build_rules [] (walk_at (value_held (codes "pips") digits) 1) path
-        ≡ build_walk
-    build_file = plain_walked path plain build_rules 1 (value_held (codes "pips") digits)
-
-    build_file_turn : turn_passes build_built.top [] (walk_at (value_held (codes "pips") digits) 1)
-        path ≡ true
-    build_file_turn =
-        plain_turn path plain build_built.top 1 (value_held (codes "pips") digits)
-        ∙ ap (λ b. b && true) passes
-
-    build_walked : walk build_rules [] nothing_held build_words ≡ build_walk
-    build_walked =
-        three_walked build_app (codes "--pips") digits path _ _ _ build_flag build_number build_file
-
-    build_passes : walk_passes build_built.top [] (walk_from nothing_held) build_words ≡ true
-    build_passes =
-        three_passes build_app (codes "--pips") digits path _ _ _ build_flag build_number build_file
-        build_flag_turn build_number_turn build_file_turn
-
-    pub build_takes : takes build_app build_words ≡ true
-    build_takes = ap₂ (taken build_built) build_passes build_walked
-
-    pub build_path : first_of (codes "FILE") (matches_of build_app build_words) ≡ Some path
-    build_path = ap (λ (w : Walk). first_of (codes "FILE") (finished build_rules w.held))
-        build_walked
-
-    pub build_one : one_of (codes "pips") (matches_of build_app build_words)
-        ≡ Some (without_minus digits)
-    build_one = ap (λ (w : Walk). one_of (codes "pips") (finished build_rules w.held)) build_walked
+    pub build_one : one_of (codes "pips") (matches_of build_app
+        (codes "--pips" ∷ digits ∷ path ∷ [])) ≡ Some (without_minus digits)
+    build_one = file_finds pips_lead path plain (one_of (codes "pips"))
 
 -- ---- query --cache N FILE
 
 module _ (digits path : Text) (digits_plain : IsPlain digits)
-    (passes : accepts false (vp.Signed (pos 1) (pos 65535)) digits ≡ true) (plain : IsPlain path)
+    (accepted : accepts false (vp.Signed (pos 1) (pos 65535)) digits ≡ true) (plain : IsPlain path)
   where
-    abbrev query_built : App
-    query_built = built query_app
-
-    abbrev query_rules : List Rule
-    query_rules = query_built.top.rules
-
-    abbrev query_words : List Text
-    query_words = codes "--cache" ∷ digits ∷ path ∷ []
-
-    query_flag : walked query_rules [] (walk_from nothing_held) (codes "--cache")
-        ≡ waiting_for (codes "cache") (option_held (codes "cache")) 1
+    cache_leads : Leads query_app (value_held (codes "cache") digits)
+        (λ more. codes "--cache" ∷ digits ∷ more)
     unfolding clap_on_literals
-    query_flag = refl
+    cache_leads = option_leads query_app (codes "cache") (codes "--cache") digits digits_plain refl
+        refl refl refl (ap (λ b. b && true) accepted) (λ more. refl) (λ more. refl)
 
-    query_flag_turn : turn_passes query_built.top [] (walk_from nothing_held) (codes "--cache")
-        ≡ true
-    unfolding clap_on_literals
-    query_flag_turn = refl
+    pub query_takes : takes query_app (codes "--cache" ∷ digits ∷ path ∷ []) ≡ true
+    query_takes = file_takes cache_leads path plain refl
 
-    query_number : walked query_rules []
-        (waiting_for (codes "cache") (option_held (codes "cache")) 1) digits
-        ≡ walk_at (value_held (codes "cache") digits) 1
-    query_number = value_walked digits digits_plain (codes "cache") query_rules 1
-        (option_held (codes "cache"))
+    pub query_path : first_of (codes "FILE") (matches_of query_app
+        (codes "--cache" ∷ digits ∷ path ∷ [])) ≡ Some path
+    query_path = file_finds cache_leads path plain (first_of (codes "FILE"))
 
-    query_number_turn : turn_passes query_built.top []
-        (waiting_for (codes "cache") (option_held (codes "cache")) 1) digits ≡ true
-    query_number_turn =
-        value_turn digits digits_plain (codes "cache") query_built.top 1
-        (option_held (codes "cache"))
-
-    abbrev query_walk : Walk
-    query_walk = to_positional query_rules (arg_by_index query_rules 1) path
-        (walk_at (value_held (codes "cache") digits) 1) (value_held (codes "cache") digits)
-
-    query_file : walked query_rules [] (walk_at (value_held (codes "cache") digits) 1) path
-        ≡ query_walk
-    query_file = plain_walked path plain query_rules 1 (value_held (codes "cache") digits)
-
-    query_file_turn : turn_passes query_built.top [] (walk_at (value_held (codes "cache") digits) 1)
-        path ≡ true
-    query_file_turn =
-        plain_turn path plain query_built.top 1 (value_held (codes "cache") digits)
-        ∙ ap (λ b. b && true) passes
-
-    query_walked : walk query_rules [] nothing_held query_words ≡ query_walk
-    query_walked =
-        three_walked query_app
-        (codes "--cache") digits path _ _ _ query_flag query_number query_file
-
-    query_passes : walk_passes query_built.top [] (walk_from nothing_held) query_words ≡ true
-    query_passes =
-        three_passes query_app
-        (codes "--cache") digits path _ _ _ query_flag query_number query_file
-        query_flag_turn query_number_turn query_file_turn
-
-    pub query_takes : takes query_app query_words ≡ true
-    query_takes = ap₂ (taken query_built) query_passes query_walked
-
-    pub query_path : first_of (codes "FILE") (matches_of query_app query_words) ≡ Some path
-    query_path = ap (λ (w : Walk). first_of (codes "FILE") (finished query_rules w.held))
-        query_walked
-
-    pub query_one : one_of (codes "cache") (matches_of query_app query_words)
-        ≡ Some (without_minus digits)
-    query_one = ap (λ (w : Walk). one_of (codes "cache") (finished query_rules w.held)) query_walked
+    pub query_one : one_of (codes "cache") (matches_of query_app
+        (codes "--cache" ∷ digits ∷ path ∷ [])) ≡ Some (without_minus digits)
+    query_one = file_finds cache_leads path plain (one_of (codes "cache"))

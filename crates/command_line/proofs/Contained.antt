@@ -80,7 +80,8 @@ no_plus (d ∷ ds) h =
 
 pub numeral_is_plain : (ds : List ℕ) → IsNumeral 10 ds → IsPlain ds
 numeral_is_plain [] h = refl
-numeral_is_plain (d ∷ ds) h = ap not (no_minus d ds h)
+numeral_is_plain (d ∷ []) h = refl
+numeral_is_plain (d ∷ next ∷ ds) h = ap not (no_minus d (next ∷ ds) h)
 
 pub without_no_minus : (ds : List ℕ) → IsNumeral 10 ds → without_minus ds ≡ ds
 without_no_minus [] h = refl

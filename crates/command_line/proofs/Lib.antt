@@ -1,3 +1,4 @@
 pub mod Contained
 mod PlainWords
 mod BoardWords
+mod ShowWords

@@ -1,14 +1,12 @@
 -- The commands, on words that do not begin with a hyphen.
 use Rattle.std.proofs.Common.{◌≡◌, ◌∙◌, ◌==◌, ◌&&◌, ◌||◌, cond, is_some, not, ℕ, Bool, true, false, refl, sym, ap, ap₂}
-use Rattle.std.proofs.Common.{true≢false, List, [], ◌∷◌, Option, Some, None, Result, Ok, Err, IfErr, IfOk, IsErr}
-use Rattle.std.proofs.Common.{IsErrAnd, IsOk, codes, ◌++◌, append_assoc, append-nil, option_and_then, option_map, fold}
+use Rattle.std.proofs.Common.{List, [], ◌∷◌, Option, Some, None, Result, Ok, Err, IsErr}
+use Rattle.std.proofs.Common.{IsErrAnd, codes, ◌++◌, append_assoc, append-nil, option_and_then, option_map, fold}
 use Rattle.std.specs.List.{list_all}
 use Rattle.std.specs.Str.{bytes_eq}
 use Rattle.clap.specs.Lexer.{long_of, long_of_rest, short_of, short_of_rest, strip_byte}
 use Rattle.clap.specs.Words.{Text, all_of, one_of, one_text, first_of, first_value, found_of, is_simple, matched_of}
-use Rattle.clap.specs.Words.{HasMatchesOf, App, app_of, built, matches_of, raw_values, takes, with_rule, Row}
-use Rattle.clap.specs.declared.builder.command.Command.{Command}
-use Rattle.std.specs.declared.alloc.AllocError.{AllocError}
+use Rattle.clap.specs.Words.{HasMatchesOf, App, built, matches_of, raw_values, takes, Row}
 use Rattle.clap.specs.Simple.{Shape, entered, filled}
 use Rattle.std.specs.Option.{option_map_or}
 use Rattle.clap.specs.Walk.{Held, Rule, Step, Waiting, Walk, idle, value, trailing, after_step, arg_by_index, finished}
@@ -22,7 +20,7 @@ use Rattle.clap.proofs.WalkLemmas.{first_value-rows, one_text-rows, raw_values-r
 use Rattle.command_line.specs.declared.words.WordsError.{WordsError}
 use Rattle.command_line.specs.declared.words.WordsError.TheVariants.{OutOfMemory}
 use Rattle.command_line.specs.Asked.{Gives, IsPlain, ArePlain}
-use Rattle.command_line.specs.Commands.{about_app, file_app, query_app, upgrade_app, ask_app, word_rule, words_rule}
+use Rattle.command_line.specs.Commands.{about_app, upgrade_app, ask_app, word_rule, words_rule}
 use Rattle.std.proofs.Math.Bool.{and-eq-true_iff}
 use Rattle.clap.specs.declared.parser.matches.ValueSource.TheVariants.{CommandLine}
 use Rattle.clap.proofs.OnLiterals.{clap_on_literals}
@@ -40,20 +38,30 @@ is_false false e = refl
 
 -- ---- a word that does not begin with a hyphen
 
+-- what both truth values give
+pub either : {X : Type 0} (b : Bool) (f : Bool → X) (x : X) → f true ≡ x → f false ≡ x → f b ≡ x
+either true f x is other = is
+either false f x is other = other
+
 pub no_dashes : (word : Text) → IsPlain word → bytes_eq word (45 ∷ 45 ∷ []) ≡ false
 no_dashes [] e = refl
-no_dashes (x ∷ xs) e = ap (λ b. b && bytes_eq xs (45 ∷ [])) (is_false (x == 45) e)
+no_dashes (x ∷ []) e = either (x == 45) (λ b. b && false) false refl refl
+no_dashes (x ∷ y ∷ xs) e = ap (λ b. b && bytes_eq (y ∷ xs) (45 ∷ [])) (is_false (x == 45) e)
 
 pub no_long : (word : Text) → IsPlain word → long_of word ≡ None
 no_long [] e = refl
-no_long (x ∷ xs) e =
+no_long (x ∷ []) e = either (x == 45) (λ b. option_and_then long_of_rest
+    (option_and_then (strip_byte 45) (cond b (Some []) None))) None refl refl
+no_long (x ∷ y ∷ xs) e =
     ap (λ b. option_and_then long_of_rest
-    (option_and_then (strip_byte 45) (cond b (Some xs) None))) (is_false (x == 45) e)
+    (option_and_then (strip_byte 45) (cond b (Some (y ∷ xs)) None))) (is_false (x == 45) e)
 
 pub no_short : (word : Text) → IsPlain word → short_of word ≡ None
 no_short [] e = refl
-no_short (x ∷ xs) e =
-    ap (λ b. option_and_then short_of_rest (cond b (Some xs) None)) (is_false (x == 45) e)
+no_short (x ∷ []) e = either (x == 45)
+    (λ b. option_and_then short_of_rest (cond b (Some []) None)) None refl refl
+no_short (x ∷ y ∷ xs) e =
+    ap (λ b. option_and_then short_of_rest (cond b (Some (y ∷ xs)) None)) (is_false (x == 45) e)
 
 -- a walk that waits for the positional at a place
 abbrev pub walk_at : Held → ℕ → Walk
@@ -101,105 +109,66 @@ taken a passes w = entered_passes a w.stopped && (passes
     && (list_all default_passes a.top.rules
     && is_valid a.top (finished a.top.rules w.held) (is_some (entered a w.stopped)))))
 
--- ---- three words
+-- ---- words that lead to what is held, and then a file
 
-module _ (app : App) (x y z : Text) (after_x after_y after_z : Walk)
-    (at_x : walked (built app).top.rules [] (walk_from nothing_held) x ≡ after_x)
-    (at_y : walked (built app).top.rules [] after_x y ≡ after_y)
-    (at_z : walked (built app).top.rules [] after_y z ≡ after_z) where
-  -- the walk over them ends where their steps lead
-  pub three_walked : walk (built app).top.rules [] nothing_held (x ∷ y ∷ z ∷ []) ≡ after_z
-  three_walked =
-      ap (λ w. walked (built app).top.rules [] (walked (built app).top.rules [] w y) z) at_x
-      ∙ ap (λ w. walked (built app).top.rules [] w z) at_y
-      ∙ at_z
+-- what a simple command takes and finds is told by its walk, which holds this behind its words,
+-- and passes over them and a first value
+pub record Leads (app : App) (held : Held) (words : List Text → List Text) : Type 0 where
+  pub takes_by : (more : List Text) → takes app (words more) ≡ taken (built app)
+      (walk_passes (built app).top [] (walk_from nothing_held) (words more))
+      (walk (built app).top.rules [] nothing_held (words more))
+  pub finds_by : (more : List Text) → matches_of app (words more) ≡ finished (built app).top.rules
+      (walk (built app).top.rules [] nothing_held (words more)).held
+  pub walks : (more : List Text) → walk (built app).top.rules [] nothing_held (words more)
+      ≡ fold (walked (built app).top.rules []) (walk_at held 1) more
+  pub passes : (more : List Text) → walk_passes (built app).top [] (walk_at held 1) more ≡ true
+      → walk_passes (built app).top [] (walk_from nothing_held) (words more) ≡ true
+  pub turn : step_passes (built app).top 1 held value ≡ true
 
-  -- the walk over three words passes where their steps do
-  pub three_passes : turn_passes (built app).top [] (walk_from nothing_held) x ≡ true
-      → turn_passes (built app).top [] after_x y ≡ true
-      → turn_passes (built app).top [] after_y z ≡ true
-      → walk_passes (built app).top [] (walk_from nothing_held) (x ∷ y ∷ z ∷ []) ≡ true
+module _ {app : App} {held : Held} {words : List Text → List Text} (leads : Leads app held words)
+    (path : Text) (plain : IsPlain path) where
+  -- the walk over the words and the file
+  abbrev pub file_walk : Walk
+  file_walk = to_positional (built app).top.rules (arg_by_index (built app).top.rules 1) path
+      (walk_at held 1) held
+
+  file_walked : walk (built app).top.rules [] nothing_held (words (path ∷ [])) ≡ file_walk
+  file_walked =
+      leads.walks (path ∷ []) ∙ plain_walked path plain (built app).top.rules 1 held
+
+  file_passes : walk_passes (built app).top [] (walk_from nothing_held) (words (path ∷ [])) ≡ true
   unfolding walk_passes
-  three_passes p q r = ap₂ (λ a b. a && b) p
-      (ap₂ (λ a b. a && b) (ap (λ w. turn_passes (built app).top [] w y) at_x ∙ q)
-      (ap (λ w. turn_passes (built app).top [] w z && true)
-      (ap (λ w. walked (built app).top.rules [] w y) at_x ∙ at_y) ∙ ap (λ b. b && true) r))
+  file_passes = leads.passes (path ∷ [])
+      (ap (λ b. b && true) (plain_turn path plain (built app).top 1 held ∙ leads.turn))
 
--- ---- one file
+  -- the command takes them, where its rules accept what was found
+  pub file_takes : taken (built app) true file_walk ≡ true → takes app (words (path ∷ [])) ≡ true
+  file_takes accepted = leads.takes_by (path ∷ [])
+      ∙ ap₂ (taken (built app)) file_passes file_walked ∙ accepted
 
-module _ (name path : Text) (plain : IsPlain path) where
-  abbrev file_built : App
-  file_built = built (file_app name)
-
-  abbrev file_walk : Walk
-  file_walk = to_positional file_built.top.rules (arg_by_index file_built.top.rules 1) path
-      (walk_at nothing_held 1) nothing_held
-
-  file_walked : walk file_built.top.rules [] nothing_held (path ∷ []) ≡ file_walk
-  file_walked = plain_walked path plain file_built.top.rules 1 nothing_held
-
-  file_passes : walk_passes file_built.top [] (walk_from nothing_held) (path ∷ []) ≡ true
-  unfolding walk_passes
-  file_passes = ap (λ b. b && true) (plain_turn path plain file_built.top 1 nothing_held)
-
-  pub file_takes : takes (file_app name) (path ∷ []) ≡ true
-  file_takes = ap₂ (taken file_built) file_passes file_walked
-
-  pub file_first : first_of (codes "FILE") (matches_of (file_app name) (path ∷ [])) ≡ Some path
-  file_first = ap (λ (w : Walk). first_of (codes "FILE") (finished file_built.top.rules w.held))
-      file_walked
+  -- what was found is what the walk ends with
+  pub file_finds : {X : Type 0} (f : List Row → X) → f (matches_of app (words (path ∷ [])))
+      ≡ f (finished (built app).top.rules file_walk.held)
+  file_finds f = ap f (leads.finds_by (path ∷ []))
+      ∙ ap (λ (w : Walk). f (finished (built app).top.rules w.held)) file_walked
 
 -- ---- a file of any kind
 
+about_leads : Leads about_app nothing_held (λ more. more)
+about_leads = record {
+  takes_by = λ more. refl;
+  finds_by = λ more. refl;
+  walks = λ more. refl;
+  passes = λ more is. is;
+  turn = refl;
+}
+
 module _ (path : Text) (plain : IsPlain path) where
-  abbrev about_built : App
-  about_built = built about_app
-
-  abbrev about_walk : Walk
-  about_walk = to_positional about_built.top.rules (arg_by_index about_built.top.rules 1) path
-      (walk_at nothing_held 1) nothing_held
-
-  about_walked : walk about_built.top.rules [] nothing_held (path ∷ []) ≡ about_walk
-  about_walked = plain_walked path plain about_built.top.rules 1 nothing_held
-
-  about_passes : walk_passes about_built.top [] (walk_from nothing_held) (path ∷ []) ≡ true
-  unfolding walk_passes
-  about_passes = ap (λ b. b && true) (plain_turn path plain about_built.top 1 nothing_held)
-
   pub about_takes : takes about_app (path ∷ []) ≡ true
-  about_takes = ap₂ (taken about_built) about_passes about_walked
+  about_takes = file_takes about_leads path plain refl
 
   pub about_first : first_of (codes "FILE") (matches_of about_app (path ∷ [])) ≡ Some path
-  about_first = ap (λ (w : Walk). first_of (codes "FILE") (finished about_built.top.rules w.held))
-      about_walked
-
--- ---- a file and no `--cache`
-
-module _ (path : Text) (plain : IsPlain path) where
-  abbrev bare_built : App
-  bare_built = built query_app
-
-  abbrev bare_walk : Walk
-  bare_walk = to_positional bare_built.top.rules (arg_by_index bare_built.top.rules 1) path
-      (walk_at nothing_held 1) nothing_held
-
-  bare_walked : walk bare_built.top.rules [] nothing_held (path ∷ []) ≡ bare_walk
-  bare_walked = plain_walked path plain bare_built.top.rules 1 nothing_held
-
-  bare_passes : walk_passes bare_built.top [] (walk_from nothing_held) (path ∷ []) ≡ true
-  unfolding walk_passes
-  bare_passes = ap (λ b. b && true) (plain_turn path plain bare_built.top 1 nothing_held)
-
-  pub bare_takes : takes query_app (path ∷ []) ≡ true
-  bare_takes = ap₂ (taken bare_built) bare_passes bare_walked
-
-  pub bare_first : first_of (codes "FILE") (matches_of query_app (path ∷ [])) ≡ Some path
-  bare_first = ap (λ (w : Walk). first_of (codes "FILE") (finished bare_built.top.rules w.held))
-      bare_walked
-
-  pub bare_none : one_of (codes "cache") (matches_of query_app (path ∷ [])) ≡ None
-  bare_none = ap (λ (w : Walk). one_of (codes "cache") (finished bare_built.top.rules w.held))
-      bare_walked
+  about_first = file_finds about_leads path plain (first_of (codes "FILE"))
 
 -- ---- two files
 
@@ -277,14 +246,61 @@ all_from a b words given m id values same simple has are is = raw_values-rows (f
     ((has (ap is_simple same ∙ simple)).0 ∙ ap (λ (x : App). matches_of x words) same)
     ∙ ap (λ ws. all_of id (matches_of b ws)) are ∙ is
 
--- ---- a command with one more argument
+-- ---- Values of an argument that may be repeated, none of which begins with a hyphen
 
-pub with_is : (r : Result Command AllocError) (a b : App) (u v : Rule) → a ≡ b → u ≡ v
-    → IfOk r (λ c. app_of c ≡ with_rule a u) → IfOk r (λ c. app_of c ≡ with_rule b v)
-with_is (Ok c) a b u v same rule is = is ∙ ap₂ with_rule same rule
-with_is (Err e) a b u v same rule is = is
+-- the rows once some values were met behind others
+abbrev pub seen_rows : List Row → Text → List Text → List Row
+seen_rows rows id [] = rows
+seen_rows rows id (first ∷ rest) = rows ++ record {
+  id = id;
+  values = first ∷ rest;
+  count = None;
+  source = Some CommandLine;
+  reading = reading_by (filled (words_rule id));
+} ∷ []
 
--- ---- A file and lines, none of which begins with a hyphen
+-- the walk once some values were met, and then a last one
+abbrev pub seen_walk : List Row → Text → ℕ → List Text → Text → Walk
+seen_walk rows id n seen last = record {
+  held = record { rows = seen_rows rows id seen; pending = Some (id, last ∷ []); skip = 0 };
+  waiting = positional;
+  position = n;
+  is_trailing = false;
+  stopped = None;
+}
+
+module _ (app : App) (seen_to : List Text → Text → Walk)
+    (one_walked : (seen : List Text) (last line : Text) → IsPlain line
+    → walked (built app).top.rules [] (seen_to seen last) line ≡ seen_to (seen ++ last ∷ []) line)
+    (one_turn : (seen : List Text) (last line : Text) → IsPlain line
+    → turn_passes (built app).top [] (seen_to seen last) line ≡ true) where
+  -- several more
+  pub all_walked : (seen : List Text) (last : Text) (more : List Text) → ArePlain more
+      → (before : List Text) × (end : Text)
+      × (fold (walked (built app).top.rules []) (seen_to seen last) more ≡ seen_to before end)
+      × (before ++ end ∷ [] ≡ (seen ++ last ∷ []) ++ more)
+  all_walked seen last [] plain = (seen, last, refl, sym (append-nil (seen ++ last ∷ [])))
+  all_walked seen last (line ∷ more) plain =
+      let both = (and-eq-true_iff _ _).0 plain in
+      let later = all_walked (seen ++ last ∷ []) line more both.1 in (
+        later.0,
+        later.1,
+        ap (λ w. fold (walked (built app).top.rules []) w more) (one_walked seen last line both.0)
+            ∙ later.2,
+        later.3 ∙ append_assoc (seen ++ last ∷ []) (line ∷ []) more,
+      )
+
+  pub all_pass : (seen : List Text) (last : Text) (more : List Text) → ArePlain more
+      → walk_passes (built app).top [] (seen_to seen last) more ≡ true
+  unfolding walk_passes
+  all_pass seen last [] plain = refl
+  all_pass seen last (line ∷ more) plain =
+      let both = (and-eq-true_iff _ _).0 plain in
+      ap₂ (λ a b. a && b) (one_turn seen last line both.0)
+      (ap (λ w. walk_passes (built app).top [] w more) (one_walked seen last line both.0)
+      ∙ all_pass (seen ++ last ∷ []) line more both.1)
+
+-- ---- A file and lines
 
 abbrev ask_built : App
 ask_built = built ask_app
@@ -297,26 +313,9 @@ module _ (path : Text) where
   abbrev file_held : Held
   file_held = record { rows = []; pending = Some (codes "FILE", path ∷ []); skip = 0 }
 
-  -- the rows with the lines so far
-  abbrev line_rows : List Text → List Row
-  line_rows [] = used (filled (word_rule (codes "FILE"))) (path ∷ []) []
-  line_rows (first ∷ rest) = used (filled (word_rule (codes "FILE"))) (path ∷ []) [] ++ record {
-    id = codes "LINE";
-    values = first ∷ rest;
-    count = None;
-    source = Some CommandLine;
-    reading = reading_by (filled (words_rule (codes "LINE")));
-  } ∷ []
-
   -- the walk once some lines were met, and then a last one
   abbrev line_walk : List Text → Text → Walk
-  line_walk seen last = record {
-    held = record { rows = line_rows seen; pending = Some (codes "LINE", last ∷ []); skip = 0 };
-    waiting = positional;
-    position = 2;
-    is_trailing = false;
-    stopped = None;
-  }
+  line_walk = seen_walk (used (filled (word_rule (codes "FILE"))) (path ∷ []) []) (codes "LINE") 2
 
   -- one more line
   line_walked : (seen : List Text) (last line : Text) → IsPlain line
@@ -340,31 +339,6 @@ module _ (path : Text) where
       ap₂ (λ b (met : Held × Step). b && step_passes ask_built.top 2 met.0 met.1)
       (plain_passes line plain positional ask_built.top (line_walk (first ∷ rest) last).held refl)
       (any_met line plain positional line_rules 2 (line_walk (first ∷ rest) last).held refl refl)
-
-  -- several more
-  lines_walked : (seen : List Text) (last : Text) (more : List Text) → ArePlain more
-      → (before : List Text) × (end : Text)
-      × (fold (walked line_rules []) (line_walk seen last) more ≡ line_walk before end)
-      × (before ++ end ∷ [] ≡ (seen ++ last ∷ []) ++ more)
-  lines_walked seen last [] plain = (seen, last, refl, sym (append-nil (seen ++ last ∷ [])))
-  lines_walked seen last (line ∷ more) plain =
-      let both = (and-eq-true_iff _ _).0 plain in
-      let later = lines_walked (seen ++ last ∷ []) line more both.1 in (
-        later.0,
-        later.1,
-        ap (λ w. fold (walked line_rules []) w more) (line_walked seen last line both.0) ∙ later.2,
-        later.3 ∙ append_assoc (seen ++ last ∷ []) (line ∷ []) more,
-      )
-
-  lines_pass : (seen : List Text) (last : Text) (more : List Text) → ArePlain more
-      → walk_passes ask_built.top [] (line_walk seen last) more ≡ true
-  unfolding walk_passes
-  lines_pass seen last [] plain = refl
-  lines_pass seen last (line ∷ more) plain =
-      let both = (and-eq-true_iff _ _).0 plain in
-      ap₂ (λ a b. a && b) (line_turn seen last line both.0)
-      (ap (λ w. walk_passes ask_built.top [] w more) (line_walked seen last line both.0)
-      ∙ lines_pass (seen ++ last ∷ []) line more both.1)
 
   -- what such a walk comes to
   end_taken : (seen : List Text) (last : Text) → taken ask_built true (line_walk seen last) ≡ true
@@ -396,7 +370,7 @@ module _ (path : Text) where
         × (walk line_rules [] nothing_held (path ∷ line ∷ lines) ≡ line_walk before end)
         × (before ++ end ∷ [] ≡ line ∷ lines)
     ask_end =
-        let later = lines_walked [] line lines each_plain.1 in (
+        let later = all_walked ask_app line_walk line_walked line_turn [] line lines each_plain.1 in (
           later.0,
           later.1,
           ap (λ w. fold (walked line_rules []) (walked line_rules [] w line) lines) ask_walked
@@ -412,7 +386,7 @@ module _ (path : Text) where
         ∙ plain_turn line each_plain.0 ask_built.top 2 file_held)
         (ap (λ w. walk_passes ask_built.top [] w lines)
         (ap (λ w. walked line_rules [] w line) ask_walked ∙ first_walked)
-        ∙ lines_pass [] line lines each_plain.1))
+        ∙ all_pass ask_app line_walk line_walked line_turn [] line lines each_plain.1))
 
     -- `ask` takes the words
     pub ask_takes : takes ask_app (path ∷ line ∷ lines) ≡ true

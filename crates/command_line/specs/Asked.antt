@@ -18,14 +18,14 @@ abbrev pub Text : Type 0
 Text = List ℕ
 
 -- a request with each text as its bytes; the lines of `ask` and the words of `show` are the text of
--- an input
+-- an input. `show` writes JSON where it is true
 pub data Asked : Type 0 where
   default : Asked
   build : Kind → ℕ → Text → Asked
   check : Kind → Text → Asked
   query : Kind → Text → Option ℕ → Asked
   ask : Text → Text → Asked
-  show : Text → Asked
+  show : Bool → Text → Asked
   about : Text → Asked
   audit : Kind → Text → Asked
   upgrade : Text → Text → Asked
@@ -37,21 +37,22 @@ asked_by (Build kind pips path) = build kind pips path.now
 asked_by (Check kind path) = check kind path.now
 asked_by (Query kind path cache) = query kind path.now cache
 asked_by (Ask path lines) = ask path.now (string_bytes lines)
-asked_by (Show words is_json) = show (string_bytes words)
+asked_by (Show words is_json) = show is_json (string_bytes words)
 asked_by (About path) = about path.now
 asked_by (Audit kind path) = audit kind path.now
 asked_by (Upgrade old new) = upgrade old.now new.now
 
--- whether the text does not begin with a hyphen
+-- whether the text does not begin with a hyphen, or is one
 abbrev pub is_plain : Text → Bool
 is_plain [] = true
-is_plain (x ∷ xs) = not (x == 45)
+is_plain (x ∷ []) = true
+is_plain (x ∷ y ∷ rest) = not (x == 45)
 
--- the text does not begin with a hyphen
+-- the text does not begin with a hyphen, or is one
 abbrev pub IsPlain : Text → Type 0
 IsPlain text = is_plain text ≡ true
 
--- no text of these begins with a hyphen
+-- no text of these begins with a hyphen, unless it is one
 abbrev pub ArePlain : List Text → Type 0
 ArePlain texts = list_all is_plain texts ≡ true
 
@@ -68,9 +69,13 @@ abbrev pub flagged : Kind → List Text → List Text
 flagged Database words = words
 flagged Board words = codes "--board" ∷ words
 
--- the words behind a command are these of the request: `--board` for a board file or an option with
--- its number before the file, and files and lines that don't begin with a hyphen. None are said to
--- be those of `show`
+-- the words for positions: `--json` stands before those for JSON
+abbrev pub formed : Bool → List Text → List Text
+formed false words = words
+formed true words = codes "--json" ∷ words
+
+-- the words behind a command are these of the request: `--board` for a board file, `--json` or an
+-- option with its number first, and files, lines and positions that don't begin with a hyphen
 abbrev pub AreUsual : Asked → List Text → Type 0
 AreUsual default words = ⊥
 AreUsual (build Database pips path) words = (digits : Text) × Writes pips digits × (pips < 256)
@@ -85,7 +90,8 @@ AreUsual (query Database path (Some records)) words = (digits : Text) × Writes 
 AreUsual (query Board path (Some records)) words = ⊥
 AreUsual (ask path text) words = (line : Text) × (lines : List Text) × IsPlain path
     × ArePlain (line ∷ lines) × (text ≡ as_input (line ∷ lines)) × (words ≡ path ∷ line ∷ lines)
-AreUsual (show texts) words = ⊥
+AreUsual (show is_json text) words = (line : Text) × (lines : List Text) × ArePlain (line ∷ lines)
+    × (text ≡ as_input (line ∷ lines)) × (words ≡ formed is_json (line ∷ lines))
 AreUsual (about path) words = IsPlain path × (words ≡ path ∷ [])
 AreUsual (audit kind path) words = IsPlain path × (words ≡ flagged kind (path ∷ []))
 AreUsual (upgrade before after) words =
@@ -98,7 +104,7 @@ name_of (build kind pips path) = codes "build"
 name_of (check kind path) = codes "check"
 name_of (query kind path cache) = codes "query"
 name_of (ask path lines) = codes "ask"
-name_of (show texts) = codes "show"
+name_of (show is_json texts) = codes "show"
 name_of (about path) = codes "about"
 name_of (audit kind path) = codes "audit"
 name_of (upgrade old new) = codes "upgrade"
@@ -148,7 +154,7 @@ IsAskedBy words (build kind pips path) = FollowsFor kind (codes "build") words p
 IsAskedBy words (check kind path) = FollowsFor kind (codes "check") words path
 IsAskedBy words (query kind path cache) = FollowsFor kind (codes "query") words path
 IsAskedBy words (ask path lines) = Follows (codes "ask") words path
-IsAskedBy words (show texts) = (rest : List Text) × (words ≡ codes "show" ∷ rest)
+IsAskedBy words (show is_json texts) = (rest : List Text) × (words ≡ codes "show" ∷ rest)
 IsAskedBy words (about path) = Follows (codes "about") words path
 IsAskedBy words (audit kind path) = FollowsFor kind (codes "audit") words path
 IsAskedBy words (upgrade old new) =

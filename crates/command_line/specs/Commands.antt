@@ -31,6 +31,14 @@ abbrev pub ask_app : App
 ask_app = with_rule (with_rule (bare_app (codes "ask")) (word_rule (codes "FILE")))
     (words_rule (codes "LINE"))
 
+-- the flag `--json`
+abbrev pub json_rule : Rule
+json_rule = record (new_rule (codes "json")) { long = Some (codes "json"); action = Some SetTrue }
+
+-- `show --json POSITION..`
+abbrev pub show_app : App
+show_app = with_rule (with_rule (bare_app (codes "show")) json_rule) (words_rule (codes "POSITION"))
+
 -- `about FILE`
 abbrev pub about_app : App
 about_app = with_rule (bare_app (codes "about")) (word_rule (codes "FILE"))

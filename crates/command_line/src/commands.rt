@@ -1,5 +1,5 @@
 //! The commands with their help, and what `clap` reads of the words of each.
-ghost use Rattle.std.specs.Prelude.{◌≡◌, ◌∷◌, [], ℕ, List, map, codes, IfErr, IfOk, IsErr, None, Some, false, true};
+ghost use Rattle.std.specs.Prelude.{◌≡◌, ◌∷◌, [], ℕ, Bool, List, map, codes, IfErr, IfOk, IsErr, None, Some, false, true};
 ghost use Rattle.std.specs.Prelude.{option_map};
 ghost use Rattle.std.specs.List.{Contains};
 ghost use Rattle.std.specs.String.{string_bytes};
@@ -9,8 +9,8 @@ ghost use Rattle.db_layout.specs.declared.stated.Kind.{Kind};
 ghost use Rattle.db_layout.specs.declared.stated.Kind.TheVariants.{Database, Board};
 ghost use Rattle.command_line.specs.declared.words.WordsError.TheVariants.{OutOfMemory};
 ghost use Rattle.command_line.specs.Asked.{AreUsual, Gives, IsAskedBy, IsFor, as_input, asked_by};
-ghost use Rattle.command_line.specs.Asked.{is_word, flagged, IsPlain, kind_in, build, query, ask, about, upgrade};
-ghost use Rattle.command_line.specs.Commands.{about_app, ask_app, bare_app, build_app, file_app, query_app};
+ghost use Rattle.command_line.specs.Asked.{is_word, flagged, IsPlain, kind_in, build, query, ask, show, about, upgrade};
+ghost use Rattle.command_line.specs.Commands.{about_app, ask_app, bare_app, build_app, file_app, query_app, show_app};
 ghost use Rattle.command_line.specs.Commands.{upgrade_app, board_rule, cache_rule, pips_rule, word_rule};
 
 use crate::words::{Request, WordsError};
@@ -104,9 +104,10 @@ const ASK: &str = "Verify FILE, of either format, and answer the queries given a
 
 const SHOW: &str = "Show EPC, wastage, rolls and plays of positions in any notation";
 
-const SHOW_HELP: &str =
-    "FILE if it is no position, then positions: an XGID, a GNU Backgammon ID or six counts, or `-`
-for one a line on standard input; last, for all of them, a roll such as 21";
+const SHOW_USAGE: &str = "bearoff show [OPTIONS] [FILE] <POSITION>... [ROLL]";
+
+const SHOW_HELP: &str = "An XGID, a GNU Backgammon ID or six counts, or `-` to read one per
+line from standard input. ROLL, such as 21, is for all of them";
 
 const SHOW_STATUSES: &str =
     "Without FILE the whole home board is built in memory. Exit status: 0 success; 1 no text was a
@@ -205,8 +206,10 @@ pub fn read_ask<'a, S: AsStr>(alloc: Global, words: &'a [S]) -> Read<'a>
 
 /// What the words after `show` ask for.
 pub fn read_show<'a, S: AsStr>(alloc: Global, words: &'a [S]) -> Read<'a>
-    ensures { IfOk result
+    ensures asked { IfOk result
         (λ r. IsAskedBy (codes "show" ∷ map S.text words.entry.now) (asked_by r)) }
+    ensures usual { (is_json : Bool) (text : List ℕ) → AreUsual (show is_json text)
+        (map S.text words.entry.now) → Gives result (IsFor (show is_json text)) }
 {
     let matches = matches_in(alloc, show_command(alloc)?, words)?;
     let is_json = matches.get_flag("json");
@@ -407,17 +410,16 @@ fn ask_command<'a>(alloc: Global) -> Made<'a>
 }
 
 /// `show --json POSITION..`.
-fn show_command<'a>(alloc: Global) -> Made<'a> {
+fn show_command<'a>(alloc: Global) -> Made<'a>
+    ensures { IfOk result (λ c. app_of c ≡ show_app) }
+{
     let command = bare_command(alloc, "show", SHOW, SHOW_STATUSES)?;
     let json = Arg::new(alloc, "json")
         .long("json")
         .action(ArgAction::SetTrue)
         .help("Write an object of JSON a line, exact fractions included");
-    let command = with(command, json)?;
-    with(
-        command,
-        word(alloc, "POSITION", SHOW_HELP).action(ArgAction::Append),
-    )
+    let positions = word(alloc, "POSITION", SHOW_HELP).action(ArgAction::Append);
+    Ok(with(with(command, json)?, positions)?.override_usage(SHOW_USAGE))
 }
 
 /// `about FILE`.
@@ -458,7 +460,7 @@ fn board<'a>(alloc: Global) -> Arg<'a>
     Arg::new(alloc, "board")
         .long("board")
         .action(ArgAction::SetTrue)
-        .help("FILE has to be a board file: the whole home board, 90 pips")
+        .help("FILE is a board file: the whole home board, 90 pips")
 }
 
 /// A required word.

@@ -1,6 +1,6 @@
 -- What is shown of a line comes behind what is shown of those before it.
 use Rattle.std.proofs.Common.{◌≡◌, ◌∙◌, ℕ, ◌+◌, ◌<◌, Bool, false, ◌||◌, List, [], ◌∷◌, ◌++◌, length, Option, None, Some}
-use Rattle.std.proofs.Common.{Bor, ap, arith, append_assoc, refl, sym, IfSome, MatchOption}
+use Rattle.std.proofs.Common.{Bor, Err, ap, arith, append_assoc, inr, refl, rules, sym, IfSome, MatchOption}
 use Rattle.std.proofs.Math.Bool.{or_assoc, or-false}
 use Rattle.std.proofs.lemmas.List.{append-nil}
 use Rattle.std.proofs.KnownBytes.{Appends-trans}
@@ -9,6 +9,8 @@ use Rattle.race_model.specs.Prelude.{Throw}
 use Rattle.race_summary.specs.Shown.{IsShown}
 use Rattle.race_summary.specs.declared.lines.Form.{Form}
 use Rattle.bearoff_cli.specs.Shows.{AreShown, parts_of}
+use Rattle.db_layout.proofs.Known.{appends_kept}
+use Rattle.query_text.proofs.Held.{part_after, part_all}
 use Rattle.bearoff_cli.proofs.show.show_lines.Invariants.{left, left_bytes}
 use Rattle.bearoff_cli.proofs.show.show_lines.Goals as goal
 
@@ -75,3 +77,49 @@ loop-rest-preserved g c =
           ∙ sym (append_assoc before.0 (line ∷ []) (left rest)),
       Appends-trans _ _ _ before.1 shown.0 before.4 shown.2,
     )
+
+pub returns-in_err-is_shown-clause-left : goal.returns-in_err-is_shown-clause-left
+returns-in_err-is_shown-clause-left g c =
+    let same : c.from_residual.result ≡ Err c.in_err-is_shown.field-0.0 = search rules in
+    let before = c.loop-rest.invariant in
+    let line = c.first_line.result.0.now in
+    let rest = c.first_line.result.1 in
+    let ends = c.in_err-is_shown.ensures {u = tt} in
+    let part = ends.left in
+    rw same (inr (
+      ends.cause,
+      record {
+        before = before.0;
+        after = line ∷ left rest;
+        are = before.3 ∙ ap (λ parts. before.0 ++ parts) (ap left c.in-Some.is
+            ∙ first_left line c.in-Some.bytes.now rest c.first_line.ensures.lines);
+        some = c.loop-rest.is_answered;
+        text = before.1;
+        shown = before.2;
+        next = part.0;
+        first = part.1;
+        written = part_after _ _ _ before.1 part.0 before.4 part.2;
+      },
+    ))
+
+pub returns-in_err-flush-clause-left : goal.returns-in_err-flush-clause-left
+returns-in_err-flush-clause-left g c =
+    let same : c.from_residual-in_err-flush.result ≡ Err c.in_err-flush.field-0.0 = search rules in
+    let before = c.loop-rest.invariant in
+    let none : left c.loop-rest.rest ≡ [] = search rules in
+    let ends = c.in_err-flush.ensures {u = tt} in
+    rw same (inr (
+      ends.cause,
+      record {
+        before = before.0;
+        after = [];
+        are = before.3 ∙ ap (λ parts. before.0 ++ parts) none;
+        some = c.loop-rest.is_answered;
+        text = before.1;
+        shown = before.2;
+        next = [];
+        first = refl;
+        written = part_all _ _ (before.1 ++ []) (Appends-trans _ _ _ before.1 [] before.4
+            (appends_kept _ _ ends.kept));
+      },
+    ))

@@ -28,13 +28,15 @@ Each (name ∷ rest) P = EachIf (bytes_eq name (codes "build"))
     → P (query kind path cache))
     (EachIf (bytes_eq name (codes "ask"))
     ((path lines : Text) → AreUsual (ask path lines) rest → P (ask path lines))
+    (EachIf (bytes_eq name (codes "show"))
+    ((is_json : Bool) (texts : Text) → AreUsual (show is_json texts) rest → P (show is_json texts))
     (EachIf (bytes_eq name (codes "about"))
     ((path : Text) → AreUsual (about path) rest → P (about path))
     (EachIf (bytes_eq name (codes "audit"))
     ((kind : Kind) (path : Text) → AreUsual (audit kind path) rest → P (audit kind path))
     (EachIf (bytes_eq name (codes "upgrade"))
     ((old new : Text) → AreUsual (upgrade old new) rest → P (upgrade old new))
-    (Unit {0})))))))
+    (Unit {0}))))))))
 
 named : (P : Asked → Type 0) (asked : Asked) (rest : List Text) → AreUsual asked rest
     → Each (name_of asked ∷ rest) P → P asked
@@ -43,7 +45,7 @@ named P (build kind pips path) rest usual all = all kind pips path usual
 named P (check kind path) rest usual all = all kind path usual
 named P (query kind path cache) rest usual all = all kind path cache usual
 named P (ask path lines) rest usual all = all path lines usual
-named P (show texts) rest usual all = absurd usual
+named P (show is_json texts) rest usual all = all is_json texts usual
 named P (about path) rest usual all = all path usual
 named P (audit kind path) rest usual all = all kind path usual
 named P (upgrade old new) rest usual all = all old new usual
@@ -102,6 +104,11 @@ pub returns-in-ask-clause-usual : goal.returns-in-ask-clause-usual
 returns-in-ask-clause-usual g c asked asks =
     each (λ a. Gives c.read_ask.result (IsFor a)) _ (codes "ask" ∷ map g.S.AsStr.text
     c.in-Some.rest.now) asked (search rules) asks c.read_ask.ensures.usual
+
+pub returns-in-show-clause-usual : goal.returns-in-show-clause-usual
+returns-in-show-clause-usual g c asked asks =
+    each (λ a. Gives c.read_show.result (IsFor a)) _ (codes "show" ∷ map g.S.AsStr.text
+    c.in-Some.rest.now) asked (search rules) asks c.read_show.ensures.usual
 
 pub returns-in-about-clause-usual : goal.returns-in-about-clause-usual
 returns-in-about-clause-usual g c asked asks =
