@@ -36,7 +36,7 @@ for crate in crates/*; do
         printf '#!/bin/sh\\necho proved "$@"\\n' >"$crate/out/$name" && chmod +x "$crate/out/$name"
     fi
     echo "rt: $name proved"
-done
+done; echo "rt: ok${FAILING:+; must-fail edits: 2 refused, 1 bad}"
 """
 
 # compiles nothing: it tells how it was called, and makes a program that tells its input
@@ -226,8 +226,7 @@ class TestProve:
     @pytest.mark.parametrize("word", [" --anew", ""])
     def test_anew(self, copy, word):
         """A gate that keeps nothing has no word for it."""
-        rt = copy.work / "kit/bin/rt"
-        rt.write_text(RT.replace(" [--anew]", word))
+        (copy.work / "kit/bin/rt").write_text(RT.replace(" [--anew]", word))
         for _ in range(2):
             assert copy.prove("--anew").status == 0
             assert copy.told() == [f"ci{word}: low other bearoff_cli"]
@@ -283,8 +282,9 @@ class TestGate:
         (copy.root / "crates/low/out/rlib/low.rlib").mkdir(parents=True)
         assert gate("low") == ["ci: low"]
 
-    def test_what_failed(self, gate):
-        assert gate("other", status=1, failing="other") == ["ci: other"]
+    @pytest.mark.parametrize("failing", ["other", "an edit that is none"])
+    def test_what_failed(self, gate, failing):
+        assert gate("other", status=1, failing=failing) == ["ci: other"]
 
     def test_a_source_that_changes_meanwhile(self, copy, gate):
         rt = copy.work / "kit/bin/rt"
