@@ -20,7 +20,9 @@ import pytest
 
 from running import HERE, KNOWN, at_terminal, need, run
 
-LINES = "rank 1,0,0,0,0,0\nmoves 0,0,0,2,0,0 21\nmean 0,0,1,0,0,0\n\nplay 0,0,0,2,0,0 21"
+LINES = (
+    "rank 1,0,0,0,0,0\nmoves 0,0,0,2,0,0 21\nmean 0,0,1,0,0,0\n\n0,0,0,0,1,0\nplay 0,0,0,2,0,0 21"
+)
 
 # the lines that a refused call of a kind may end with
 FAULTS = {
@@ -84,6 +86,7 @@ COMMANDS = {
         ["growth", "seek", *OPENED, *LOADED, *GIVEN, *TOLD],
     ),
     "ask": ("ask eight 'rank 1,0,0,0,0,0'", ["growth", *OPENED, *LOADED, *TOLD]),
+    "show": ("show eight -", ["growth", *OPENED, *LOADED, *GIVEN, *TOLD]),
     "about": ("about eight", ["growth", *OPENED, *LOADED, *TOLD]),
     "audit": ("audit eight", ["growth", *OPENED, *LOADED, *TOLD]),
     "upgrade": ("upgrade eight made", ["growth", *OPENED, *LOADED, *STORED, *TOLD]),
@@ -221,8 +224,7 @@ def test_program(program, refusing, note, name, kind):
 def test_standard_error_fails_too(program, refusing):
     """The status stands."""
     got, calls = refusing([program, "check", "nothing"], "errors:1+")
-    assert calls > 0
-    assert (got.status, got.output, got.errors) == (1, b"", b"")
+    assert (calls > 0, got.status, got.output, got.errors) == (True, 1, b"", b"")
 
 
 def test_a_terminal_that_fails(program, library):

@@ -124,7 +124,7 @@ of_no_file From default fault one = tt
 of_no_file From (build kind pips path) fault one = tt
 of_no_file From (query kind path (Some records)) fault one = tt
 of_no_file From (query kind path None) fault one = inl one
-of_no_file From (show is_json texts) fault one = tt
+of_no_file From (show is_json texts) fault one = inl one
 of_no_file From _ fault one = inl one
 
 -- at such a fault nothing has to stay as it was

@@ -26,6 +26,7 @@ use Rattle.db_layout.specs.declared.stated.Kind.{Kind}
 use Rattle.db_layout.specs.declared.stated.Kind.TheVariants.{Database, Board}
 use Rattle.command_line.specs.Asked.{Asked, default, build, check, query, ask, show, about, audit, upgrade}
 use Rattle.bearoff_cli.specs.Kinds.{greatest, taken_as}
+use Rattle.bearoff_cli.specs.Shows.{IsFileShown}
 use Rattle.bearoff_cli.specs.declared.files.Unread.{Unread}
 use Rattle.bearoff_cli.specs.declared.files.Unread.TheVariants as unread
 
@@ -116,6 +117,8 @@ IsFaultOf From (ask path lines) = IsOf (From path) (λ file. IsFaultIn (stated_k
 IsFaultOf From (about path) = IsOf (From path) (λ file. IsFaultIn (stated_kind file) file)
 IsFaultOf From (audit kind path) = IsOf (From path) (IsFaultAsked kind)
 IsFaultOf From (upgrade old new) = IsOf (From old) (IsFaultIn Database)
+IsFaultOf From (show is_json texts) =
+    IsOf (IsFileShown From texts) (λ file. IsFaultIn (stated_kind file) file)
 IsFaultOf From _ = λ fault. Unit {0}
 
 -- the fault of a file that was not read

@@ -1,6 +1,6 @@
 -- What a request leaves of the disk, the input and the output, however it ends.
-use Rattle.std.specs.Prelude.{ℕ, List, Option, None, ◌≡◌, suc, ◌≤◌, ◌⊎◌, [], ◌∷◌, ◌++◌, Some, true, ◌<◌, Result, Ok, Err}
-use Rattle.std.specs.Prelude.{IfErr, OnOk}
+use Rattle.std.specs.Prelude.{ℕ, List, Option, None, ◌≡◌, suc, ◌≤◌, ◌⊎◌, [], ◌∷◌, ◌++◌, Some, ◌<◌, Result, Ok, Err}
+use Rattle.std.specs.Prelude.{true, IfErr, OnOk}
 use Rattle.whole_file.specs.Disks.{Moment}
 use Rattle.whole_file.specs.Paths.{Paths, untold_paths}
 use Rattle.whole_file.specs.declared.disk.Disk.{Ghosts}

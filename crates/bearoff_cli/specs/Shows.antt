@@ -94,6 +94,11 @@ abbrev pub IsFileOf : (List ℕ → List ℕ → Type 0) → Option (List ℕ) �
 IsFileOf From None file = IsBuiltBoard 90 file
 IsFileOf From (Some path) file = From path file
 
+-- the file is the one that one of these words names, or the built one where none does
+abbrev pub IsFileShown : (List ℕ → List ℕ → Type 0) → List ℕ → List ℕ → Type 0
+IsFileShown From texts file = (path : Option (List ℕ)) × (words : List ℕ) × (roll : Option Throw)
+    × IsSplit texts path words roll × IsFileOf From path file
+
 -- this was written of these words, over the file that one of them names if there is one
 pub record ShowsTexts (Says : Kind × List ℕ → Option Throw → Form → List ℕ → Type 0)
     (From : List ℕ → List ℕ → Type 0) (is_json : Bool) (texts : List ℕ)

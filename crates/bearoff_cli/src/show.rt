@@ -1,9 +1,11 @@
 //! `show`: what a file, or the whole board, says of positions in any notation.
-ghost use Rattle.std.specs.Prelude.{◌≡◌, ◌⊎◌, ◌<◌, ℕ, true, List, [], ◌∷◌, length, IfOk, IfErr, IfSome, OnOk, OnErr, MatchOption};
+ghost use Rattle.std.specs.Prelude.{◌≡◌, ◌⊎◌, ◌<◌, ℕ, true, List, [], ◌∷◌, length, IfOk, IfErr, IfSome};
+ghost use Rattle.std.specs.Prelude.{OnOk, OnErr, MatchOption};
 ghost use Rattle.std.specs.Io.KnownBytes.{Appends};
 ghost use Rattle.db_layout.specs.Writes.{AppendsPart};
-ghost use Rattle.epc_query.specs.Kinds.{IsAcceptedAs};
-ghost use Rattle.bearoff_cli.specs.Faults.{IsAmong, ask_faults, status_of};
+ghost use Rattle.epc_query.specs.Kinds.{IsAcceptedAs, stated_kind};
+ghost use Rattle.command_line.specs.Asked.{show};
+ghost use Rattle.bearoff_cli.specs.Faults.{IsAmong, IsFaultIn, IsFaultOf, ask_faults, status_of};
 ghost use Rattle.bearoff_cli.specs.FileAnswers.{IsReadFrom};
 ghost use Rattle.bearoff_cli.specs.declared.fault.Fault.TheVariants.{Write};
 ghost use Rattle.bearoff_cli.specs.PutFiles.{KeepsIfRefused};
@@ -11,7 +13,7 @@ ghost use Rattle.bearoff_cli.specs.Shows.{LeavesLines, ShowsLines, ShowsTexts, S
 ghost use Rattle.race_summary.specs.Shown.{IsShown, IsShownFirst};
 
 use crate::fault::{Fault, Hint};
-use crate::files::{MOST_BYTES, built_file, flush, read_bytes, read_file};
+use crate::files::{MOST_BYTES, Unread, built_file, flush, read_bytes, read_file};
 use db_layout::{BOARD_BOUND, Kind};
 use epc_query::{Accepted, Opened, Text, accept_stated, stated_kind};
 use legal_plays::Roll;
@@ -36,6 +38,9 @@ pub fn show<D: Disk, I: Read, O: Write>(
 ) -> Result<(), Fault>
     ensures refused { KeepsIfRefused result (O.contents output.old) (O.contents output.new) }
     ensures cause { IfErr result (IsAmong ask_faults) }
+    ensures fault { IfErr result (IsFaultOf
+        (IsReadFrom D.Reader.remaining (D.paths disk.old) (D.told disk.old))
+        (show is_json words.now)) }
     ensures shown { OnOk result (ShowsTexts
         (ShowsLines true (O.contents output.old) (O.contents output.new))
         (IsReadFrom D.Reader.remaining (D.paths disk.old) (D.told disk.old)) is_json words.now
@@ -88,6 +93,8 @@ fn show_file<I: Read, O: Write>(
 ) -> Result<(), Fault>
     ensures refused { KeepsIfRefused result (O.contents output.old) (O.contents output.new) }
     ensures cause { IfErr result (IsAmong ask_faults) }
+    ensures fault { IfErr result (λ fault. (status_of fault ≡ 1)
+        ⊎ IsFaultIn (stated_kind file.now) file.now fault) }
     ensures shown { OnOk result (ShowsWords
         (ShowsLines true (O.contents output.old) (O.contents output.new)) file.now
         wish.now.roll wish.now.form lines.now (I.remaining input.old) (I.remaining input.new)) }
@@ -98,7 +105,11 @@ fn show_file<I: Read, O: Write>(
     let kind = stated_kind(file);
     let accepted = accept_stated(file)?;
     if lines.trim_ascii() == INPUT {
-        let read = read_bytes(alloc, input)?;
+        let read = match read_bytes(alloc, input) {
+            Ok(read) => read,
+            Err(Unread::Memory) => return Err(Fault::Memory),
+            Err(_) => return Err(Fault::Read),
+        };
         if read.len() >= MOST_BYTES {
             return Err(Fault::Turns);
         }

@@ -1,6 +1,6 @@
 -- For the word - the lines are the whole input.
 use Rattle.std.proofs.Common.{◌≡◌, ◌∙◌, inr, ℕ, ◌<◌, List, Option, length, take, ap, subst, sym, arith}
-use Rattle.std.proofs.Common.{codes, length-take}
+use Rattle.std.proofs.Common.{codes, length-take, IfOk}
 use Rattle.std.specs.Str.{IsTrimAscii}
 use Rattle.std.proofs.lemmas.List.{take_all}
 use Rattle.std.proofs.lemmas.Slice.Eq.{bytes_eq-Decides}
@@ -37,8 +37,9 @@ module _ (g : Over) (c : After-show_accepted g) where
         lines = c.as_slice.result.now;
         given = inr (
           subst (IsTrimAscii words) is_input c.trim_ascii.ensures.value,
-          all_read 20000001 _ c.in_ok-read.read.items c.as_slice.result.now
-              (c.in_ok-read.ensures {u = tt}).read
+          all_read 20000001 _ c.in-Ok.read.items c.as_slice.result.now
+              (subst (λ r. WhereTold (g.I.Read.remaining c.args.input.now) (λ left. IfOk r
+              (λ bytes. bytes.items ≡ take 20000001 left))) c.in-Ok.is c.read_bytes.ensures.read)
               (omega (arith, c.len.ensures, c.if-len-ge-MOST_BYTES.false)) c.as_slice.ensures.value,
         );
         says = subst (λ kind. Says (kind, c.args.file.now) c.args.wish.now.roll
