@@ -1,6 +1,6 @@
 -- `--board`, or an option with a number, and then a file.
-use Rattle.std.proofs.Common.{◌≡◌, ◌∙◌, ◌==◌, ◌&&◌, cond, ℕ, true, refl, ap, ap₂, List, [], ◌∷◌, Some, None, codes, fold}
-use Rattle.std.proofs.Common.{◌||◌, false, pos}
+use Rattle.std.proofs.Common.{◌≡◌, ◌∙◌, ◌==◌, ◌&&◌, cond, ℕ, true, refl, ap, ap₂, List, [], ◌∷◌, Some, None}
+use Rattle.std.proofs.Common.{◌||◌, codes, false, fold, pos}
 use Rattle.std.specs.Str.{bytes_eq}
 use Rattle.clap.specs.Words.{App, Text, built, first_of, matches_of, one_of, takes}
 use Rattle.clap.specs.Simple.{filled, Shape}

@@ -357,20 +357,20 @@ module _ (path : Text) where
 
   module _ (plain : IsPlain path) (line : Text) (lines : List Text)
       (all : ArePlain (line ∷ lines)) where
-    abbrev each_plain : IsPlain line × ArePlain lines
-    each_plain = (and-eq-true_iff _ _).0 all
+    abbrev plains : IsPlain line × ArePlain lines
+    plains = (and-eq-true_iff _ _).0 all
 
     ask_walked : walked line_rules [] (walk_from nothing_held) path ≡ walk_at file_held 2
     ask_walked = plain_walked path plain line_rules 1 nothing_held
 
     first_walked : walked line_rules [] (walk_at file_held 2) line ≡ line_walk [] line
-    first_walked = plain_walked line each_plain.0 line_rules 2 file_held
+    first_walked = plain_walked line plains.0 line_rules 2 file_held
 
     ask_end : (before : List Text) × (end : Text)
         × (walk line_rules [] nothing_held (path ∷ line ∷ lines) ≡ line_walk before end)
         × (before ++ end ∷ [] ≡ line ∷ lines)
     ask_end =
-        let later = all_walked ask_app line_walk line_walked line_turn [] line lines each_plain.1 in (
+        let later = all_walked ask_app line_walk line_walked line_turn [] line lines plains.1 in (
           later.0,
           later.1,
           ap (λ w. fold (walked line_rules []) (walked line_rules [] w line) lines) ask_walked
@@ -383,10 +383,10 @@ module _ (path : Text) where
     ask_passes = ap₂ (λ a b. a && b) (plain_turn path plain ask_built.top 1 nothing_held)
         (ap₂ (λ a b. a && b)
         (ap (λ w. turn_passes ask_built.top [] w line) ask_walked
-        ∙ plain_turn line each_plain.0 ask_built.top 2 file_held)
+        ∙ plain_turn line plains.0 ask_built.top 2 file_held)
         (ap (λ w. walk_passes ask_built.top [] w lines)
         (ap (λ w. walked line_rules [] w line) ask_walked ∙ first_walked)
-        ∙ all_pass ask_app line_walk line_walked line_turn [] line lines each_plain.1))
+        ∙ all_pass ask_app line_walk line_walked line_turn [] line lines plains.1))
 
     -- `ask` takes the words
     pub ask_takes : takes ask_app (path ∷ line ∷ lines) ≡ true

@@ -1,5 +1,6 @@
 -- The words of `show`: `--json` or not, and positions.
-use Rattle.std.proofs.Common.{◌≡◌, ◌∙◌, ◌&&◌, Bool, true, false, refl, ap, ap₂, Option, List, [], ◌∷◌, ◌++◌, Some, None, codes, fold}
+use Rattle.std.proofs.Common.{◌≡◌, ◌∙◌, ◌&&◌, Bool, true, false, refl, ap, ap₂, Option, List, [], ◌∷◌}
+use Rattle.std.proofs.Common.{◌++◌, Some, None, codes, fold}
 use Rattle.std.proofs.Math.Bool.{and-eq-true_iff}
 use Rattle.clap.specs.Words.{Row, Rule, Text, all_of, built, matches_of, one_of, takes, App}
 use Rattle.clap.specs.Simple.{filled}

@@ -1,6 +1,6 @@
 //! The commands with their help, and what `clap` reads of the words of each.
-ghost use Rattle.std.specs.Prelude.{◌≡◌, ◌∷◌, [], ℕ, Bool, List, map, codes, IfErr, IfOk, IsErr, None, Some, false, true};
-ghost use Rattle.std.specs.Prelude.{option_map};
+ghost use Rattle.std.specs.Prelude.{◌≡◌, ◌∷◌, [], ℕ, Bool, List, map, codes, IfErr, IfOk, IsErr, None, Some};
+ghost use Rattle.std.specs.Prelude.{false, true, option_map};
 ghost use Rattle.std.specs.List.{Contains};
 ghost use Rattle.std.specs.String.{string_bytes};
 ghost use Rattle.clap.specs.Words.{HasMatchesOf, app_of, first_value, found_of, matched_of, raw_values, rule_of, takes};
